@@ -1,0 +1,32 @@
+// Stores at a place of a lent buffer.
+ghost use mathlib.Core.Path.{_≡_};
+ghost use mathlib.Core.List.{[], _∷_};
+ghost use Prim.Native.Nat.{_+_, _^_, _<_};
+ghost use lib.ListN.{length};
+ghost use Rattle.laws.specs.Put.{Put};
+
+// One byte; the place past it.
+pub fn put_byte(d: &mut [u8], at: usize, b: u8) -> usize
+    requires { ⌜ at < 2 ^ 63 ⌝ }
+    ensures { λ r. ⌜ Put (now (d .entry)) at (b ∷ []) (now (d .exit)) r ⌝ }
+{
+    if at < d.len() {
+        d[at] = b;
+        return at + 1;
+    }
+    at + 1
+}
+
+// All of `src`; the place past it.
+pub fn put_all(src: &[u8], d: &mut [u8], at: usize) -> usize
+    requires { ⌜ at + length (now src) < 2 ^ 63 ⌝ }
+    ensures { λ r. ⌜ Put (now (d .entry)) at (now (src .entry)) (now (d .exit)) r ⌝ }
+{
+    let mut i = 0;
+    let mut o = at;
+    while i < src.len() {
+        o = put_byte(d, o, src[i]);
+        i += 1;
+    }
+    o
+}

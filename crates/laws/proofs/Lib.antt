@@ -1,0 +1,7 @@
+-- Laws that the proofs of every crate cite.
+pub mod WalkLaws
+pub mod PutLaws
+pub mod Prefix
+pub mod Signed
+pub mod Table
+pub mod Floats

@@ -1,0 +1,54 @@
+-- A loop that writes a buffer from its front: after i turns the buffer holds `take i want ++ drop i d`, where `want` is what the
+-- loop writes in the end and d what the buffer held.
+--     prefix-store, prefix-next     one store more, of want's next element
+--     prefix-length                 the buffer's length is that of d
+--     prefix-whole, prefix-part     in the end: all of want, or its first n elements, and past them what d held
+-- Assumes nothing.
+use mathlib.Core.Path.{_≡_, refl, sym, ap, _∙_}
+use mathlib.Core.List.{List, [], _∷_, _++_, append-assoc}
+use Prim.Native.Nat.{ℕ, zero, suc, _+_, _≤_, _<_}
+use native.Mathlib.Nat.{not-suc-le-zero, le-of-suc-le-suc}
+use native.Mathlib.Numerals.{add-one}
+use native.Mathlib.Omega.{arith}
+use lib.ListN.{length, take, drop, set, getD, length-append, length-drop}
+use lib.Seq.{drop-cons, set-at, take-suc, take-length, length-take-le}
+use Rattle.laws.specs.Buffer.{written}
+
+module _ {A : Type 0} where
+  -- v is the element at i, and what lies past it
+  pub next-at : (l rest : List A) (i : ℕ) (v d : A) → drop i l ≡ v ∷ rest → v ≡ getD l i d
+  next-at [] rest zero v d e = let z : _≡_ {A = ℕ} 0 1 = cc in absurd (omega arith)
+  next-at [] rest (suc i) v d e = let z : _≡_ {A = ℕ} 0 1 = cc in absurd (omega arith)
+  next-at (x ∷ l) rest zero v d e = cc
+  next-at (x ∷ l) rest (suc i) v d e = next-at l rest i v d e
+
+  next-past : (l rest : List A) (i : ℕ) (v : A) → drop i l ≡ v ∷ rest → drop (suc i) l ≡ rest
+  next-past [] rest zero v e = let z : _≡_ {A = ℕ} 0 1 = cc in absurd (omega arith)
+  next-past [] rest (suc i) v e = let z : _≡_ {A = ℕ} 0 1 = cc in absurd (omega arith)
+  next-past (x ∷ l) rest zero v e = cc
+  next-past (x ∷ l) rest (suc i) v e = next-past l rest i v e
+
+  pub rest-past : (l rest : List A) (i : ℕ) (v : A) → drop i l ≡ v ∷ rest → drop (i + 1) l ≡ rest
+  rest-past l rest i v e = rw (add-one i) (next-past l rest i v e)
+
+  pub next-within : (l rest : List A) (i : ℕ) (v : A) → drop i l ≡ v ∷ rest → i < length l
+  next-within l rest i v e = omega (arith, ap length e, length-drop i l)
+
+  -- v, which is want's element at i, is stored at i
+  pub prefix-store : (want d out : List A) (i : ℕ) (dft v : A) → i < length want → i < length d → out ≡ take i want ++ drop i d → v ≡ getD want i dft → set out i v ≡ take (i + 1) want ++ drop (i + 1) d
+  prefix-store want d out i dft v hw hd e q =
+      let small : i ≤ length want = omega arith in
+      rw (e, q, add-one, take-suc want i dft) (rw (drop-cons d i dft hd) (set-at (take i want) (getD d i dft) (drop (suc i) d) (getD want i dft) i (length-take-le i want small) ∙ sym (append-assoc (take i want) (getD want i dft ∷ []) (drop (suc i) d))))
+
+  -- the same where want is known by what is left of it
+  pub prefix-next : (want rest d out : List A) (i : ℕ) (v : A) → drop i want ≡ v ∷ rest → i < length d → out ≡ take i want ++ drop i d → set out i v ≡ take (i + 1) want ++ drop (i + 1) d
+  prefix-next want rest d out i v n hd e = prefix-store want d out i v v (next-within want rest i v n) hd e (next-at want rest i v v n)
+
+  pub prefix-length : (want d : List A) (i : ℕ) → i ≤ length want → i ≤ length d → length (take i want ++ drop i d) ≡ length d
+  prefix-length want d i hw hd = simp (length-append, length-drop, length-take-le i want hw) (omega arith)
+
+  pub prefix-whole : (want d : List A) (i : ℕ) → i ≡ length want → take i want ++ drop i d ≡ written want d
+  prefix-whole want d i e = rw (e, take-length want)
+
+  pub prefix-part : (want d : List A) (n : ℕ) → n ≤ length want → take n want ++ drop n d ≡ written (take n want) d
+  prefix-part want d n h = rw (length-take-le n want h)

@@ -1,0 +1,4 @@
+-- Definitions that the contracts of several crates cite.
+pub mod Walk
+pub mod Put
+pub mod Buffer

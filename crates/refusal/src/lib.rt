@@ -1,0 +1,98 @@
+// Refusals by their numbers, and the answer of an entry that fills one lent buffer.
+
+// Turned back by the input.
+
+// The file has under 12 bytes.
+pub const FILE_SHORT: u8 = 1;
+
+// No FORM.
+pub const NOT_FORM: u8 = 2;
+
+// The form type is not 8SVX.
+pub const NOT_8SVX: u8 = 3;
+
+// A chunk runs past the FORM.
+pub const CHUNK_PAST_FORM: u8 = 4;
+
+// A second VHDR, CHAN, PAN, SEQN, FADE or BODY.
+pub const CHUNK_TWICE: u8 = 5;
+
+// A chunk's length is wrong.
+pub const CHUNK_LENGTH: u8 = 6;
+
+// CHAN is not 2, 4 or 6.
+pub const CHANNEL_VALUE: u8 = 7;
+
+// No VHDR.
+pub const NO_HEADER: u8 = 8;
+
+// No BODY.
+pub const NO_BODY: u8 = 9;
+
+// The compression is above 1.
+pub const COMPRESSION: u8 = 10;
+
+// A Fibonacci BODY of two channels has an odd length.
+pub const ODD_HALVES: u8 = 11;
+
+// A Fibonacci channel has under 2 bytes.
+pub const CHANNEL_SHORT: u8 = 12;
+
+// The octaves' samples pass 2^64 - 1.
+pub const OCTAVE_TOTAL: u8 = 13;
+
+// A channel is shorter than its octaves.
+pub const SAMPLES_SHORT: u8 = 14;
+
+// The sheet ends inside a record.
+pub const RECORD_CUT: u8 = 15;
+
+// A record's kind, order or value is wrong, or there is no header.
+pub const RECORD_WRONG: u8 = 16;
+
+// A text is not UTF-8.
+pub const TEXT_ILL_FORMED: u8 = 17;
+
+// The sample lengths don't suit the sheet.
+pub const SAMPLE_LENGTHS: u8 = 18;
+
+// The FORM length would pass 4,294,967,295.
+pub const FORM_LENGTH: u8 = 19;
+
+// An output buffer is too short.
+pub const BUFFER_SHORT: u8 = 20;
+
+// A SEQN segment is invalid.
+pub const SEGMENT: u8 = 21;
+
+// SEQN beside a one-shot part.
+pub const SEQUENCE_ONE_SHOT: u8 = 22;
+
+// FADE names no segment.
+pub const FADE_SEGMENT: u8 = 23;
+
+// The sequence passes 4,294,967,295 samples.
+pub const SEQUENCE_LENGTH: u8 = 24;
+
+// A fill buffer has an odd number of places.
+pub const ODD_PLACES: u8 = 25;
+
+// Turned back by the note's state.
+
+// The octave is absent.
+pub const NO_OCTAVE: u8 = 31;
+
+// The step is 0 or above 16,777,216.
+pub const STEP: u8 = 32;
+
+// The output rate is 0 or above 192,000.
+pub const RATE: u8 = 33;
+
+// The key-up frame is later than the frames filled.
+pub const KEY_UP: u8 = 34;
+
+// How much of a lent buffer was written, or why nothing was.
+pub enum Output {
+    Length(usize),
+    Refused(u8),
+}
