@@ -1,3 +1,4 @@
 -- Laws that this crate's proofs and those above cite.
 pub mod BigEndianLaws
 pub mod SignedLaws
+pub mod TaggedLaws

@@ -1,3 +1,4 @@
--- The meaning of fields: numbers of several bytes, and signed numbers.
+-- The meaning of fields: numbers of several bytes, signed numbers, and payloads as records.
 pub mod BigEndian
 pub mod Signed
+pub mod Tagged

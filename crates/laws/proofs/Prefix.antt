@@ -3,14 +3,15 @@
 --     prefix-store, prefix-next     one store more, of want's next element
 --     prefix-length                 the buffer's length is that of d
 --     prefix-whole, prefix-part     in the end: all of want, or its first n elements, and past them what d held
+--     prefix-map, prefix-map-whole  where want is f of each element of a list
 -- Assumes nothing.
 use mathlib.Core.Path.{_≡_, refl, sym, ap, _∙_}
-use mathlib.Core.List.{List, [], _∷_, _++_, append-assoc}
+use mathlib.Core.List.{List, [], _∷_, _++_, map, append-assoc}
 use Prim.Native.Nat.{ℕ, zero, suc, _+_, _≤_, _<_}
 use native.Mathlib.Nat.{not-suc-le-zero, le-of-suc-le-suc}
 use native.Mathlib.Numerals.{add-one}
 use native.Mathlib.Omega.{arith}
-use lib.ListN.{length, take, drop, set, getD, length-append, length-drop}
+use lib.ListN.{length, take, drop, set, getD, length-append, length-drop, length-map, List·getD-map}
 use lib.Seq.{drop-cons, set-at, take-suc, take-length, length-take-le}
 use Rattle.laws.specs.Buffer.{written}
 
@@ -52,3 +53,13 @@ module _ {A : Type 0} where
 
   pub prefix-part : (want d : List A) (n : ℕ) → n ≤ length want → take n want ++ drop n d ≡ written (take n want) d
   prefix-part want d n h = rw (length-take-le n want h)
+
+-- a loop that writes f of each element of a list
+module _ {A B : Type 0} (f : A → B) (l : List A) where
+  pub prefix-map : (d out : List B) (i : ℕ) (dft : A) (v : B) → i < length l → i < length d → out ≡ take i (map f l) ++ drop i d → v ≡ f (getD l i dft) → set out i v ≡ take (i + 1) (map f l) ++ drop (i + 1) d
+  prefix-map d out i dft v hl hd e q =
+      let within : i < length (map f l) = rw (length-map l f) hl in
+      prefix-store (map f l) d out i (f dft) v within hd e (q ∙ sym (List·getD-map f l i dft))
+
+  pub prefix-map-whole : (d : List B) (i : ℕ) → i ≡ length l → take i (map f l) ++ drop i d ≡ written (map f l) d
+  prefix-map-whole d i e = prefix-whole (map f l) d i (e ∙ sym (length-map l f))

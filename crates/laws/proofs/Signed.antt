@@ -246,4 +246,3 @@ known {w} {z} f = record { above = omega (arith, fits-parts f); below = omega (a
 
 -- what `omega` is handed for ℤ
 pub ruleset zarith = (arith, eqZ, eq-parts, fits-of, ltZ-true, ltZ-false, leZ-true, leZ-false, lt-parts, le-parts, lt-of, le-of, nonNeg-of)
-

@@ -14,6 +14,11 @@ pub data Outcome (A : Type 0) : Type 0 where
   gives : A → Outcome A
   refuses : ℕ → Outcome A
 
+-- a further step on what was given; a refusal stands
+abbrev pub andThen : {A B : Type 0} → Outcome A → (A → Outcome B) → Outcome B
+andThen (gives a) next = next a
+andThen (refuses number) next = refuses number
+
 -- the answer where the output is to go into a buffer of n places: its length, or the refusal, or 20 where it doesn't fit
 abbrev pub answer : {A : Type 0} → Outcome (List A) → ℕ → Output
 answer (gives xs) n = cond (leb (length xs) n) (Length (length xs)) (Refused bufferShort)

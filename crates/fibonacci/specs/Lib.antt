@@ -1,0 +1,5 @@
+-- The meaning of Fibonacci-delta coding.
+pub mod Step
+pub mod Decode
+pub mod Pick
+pub mod Encode

@@ -1,0 +1,80 @@
+-- The invariant is `Underway` over the parts that are left; `turn` splits off the part of a turn.
+use Prim.Native.Nat.{ℕ, _+_, _-_, _≤_}
+use denote.Ref.{now}
+use lib.ListN.{length, take, drop}
+use mathlib.Core.List.{List, _∷_, _++_}
+use mathlib.Core.Path.{_≡_, refl, _∙_}
+use native.Mathlib.Omega.{arith}
+use Rattle.field.proofs.store.put_tagged.Statement.{statement}
+use Rattle.field.proofs.store.put_tagged.Tie as tie
+use Rattle.laws.proofs.PutLaws.{Underway, underway-start, underway-step, underway-room, underway-done}
+use Rattle.field.proofs.TaggedLaws.{tagged-at, tagged-at-end}
+use Rattle.field.specs.Tagged.{tagged}
+
+abbrev Inv-loop : tie.InvT-loop
+Inv-loop src tag n d₀ at i₀ o₀ d i o = Underway d₀ at (tagged tag n src) d o (tagged tag n (drop i src)) × (length d ≡ length d₀) × (i ≤ length src)
+
+abbrev μ-loop : tie.MeasureT-loop
+μ-loop src tag n d₀ at i₀ o₀ d i o = length src - i
+
+loop-holds : tie.Need-loop-holds Inv-loop μ-loop
+loop-holds c = (underway-start, refl, omega arith)
+
+sub-loop : tie.Need-sub-loop Inv-loop μ-loop
+sub-loop c = omega arith
+
+add-e : tie.Need-add-e Inv-loop μ-loop
+add-e c = omega arith
+
+sub-put-part : tie.Need-sub-put-part Inv-loop μ-loop
+sub-put-part c = omega arith
+
+part-put-part-start : tie.Need-part-put-part-start Inv-loop μ-loop
+part-put-part-start c = omega arith
+
+part-put-part-end : tie.Need-part-put-part-end Inv-loop μ-loop
+part-put-part-end c = omega arith
+
+-- the part of a turn
+abbrev part : (c : tie.In-loop Inv-loop μ-loop) → List ℕ
+part c = let a = c .before .before .before .before .args in let i = c .before .loop .i in a .tag ∷ take (i + a .n - i) (drop i (now (a .src)))
+
+turn : (c : tie.In-loop Inv-loop μ-loop) →
+    let a = c .before .before .before .before .args in let i = c .before .loop .i in
+    tagged (a .tag) (a .n) (drop i (now (a .src))) ≡ part c ++ tagged (a .tag) (a .n) (drop (i + a .n) (now (a .src)))
+turn c = tagged-at _ _ (c .before .before .before .before .pre .0) _ _ (c .loop-test .taken)
+
+put-part-requires : tie.Need-put-part-requires Inv-loop μ-loop
+put-part-requires c κs = omega (arith, underway-room (part (c .before .before)) _ (c .before .before .before .loop .inv .0) (turn (c .before .before)))
+
+loop-less : tie.Need-loop-less Inv-loop μ-loop
+loop-less c = omega arith
+
+loop-again : tie.Need-loop-again Inv-loop μ-loop
+loop-again c =
+    let inv = c .before .before .before .before .before .before .loop .inv in
+    (underway-step _ (inv .0) (turn (c .before .before .before .before .before)) (c .before .before .put-part .ensures), c .before .before .put-part .kept .1 .1 .0 ∙ inv .1, omega arith)
+
+same-length : tie.Need-same-length Inv-loop μ-loop
+same-length c = c .before .loop .inv .1
+
+returns : tie.Need-returns Inv-loop μ-loop
+returns c = underway-done (c .before .loop .inv .0) (tagged-at-end _ _ (c .before .before .before .before .pre .0) (now (c .before .before .before .before .args .src)) (c .before .loop .i) (c .loop-test .left))
+
+pub put-tagged-spec : {M : Type 1} → statement M
+put-tagged-spec =
+    tie.close
+    (tie.spec
+    Inv-loop
+    μ-loop
+    loop-holds
+    sub-loop
+    add-e
+    sub-put-part
+    part-put-part-start
+    part-put-part-end
+    put-part-requires
+    loop-less
+    loop-again
+    same-length
+    returns)

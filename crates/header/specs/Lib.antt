@@ -1,0 +1,5 @@
+-- The meaning of the voice header.
+pub mod Compression
+pub mod Header
+pub mod Octaves
+pub mod Frequency

@@ -1,0 +1,2 @@
+-- Laws that the proofs of the entries cite.
+pub mod OutcomeLaws

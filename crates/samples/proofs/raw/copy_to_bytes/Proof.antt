@@ -1,0 +1,69 @@
+-- `samples::raw::copy_to_bytes` meets its contract: after i turns `out` holds the first i of what it writes, and past them what it held.
+-- Assumes nothing.
+use mathlib.Core.Path.{_≡_, refl, _∙_, ap}
+use mathlib.Core.List.{map, _++_}
+use Prim.Native.Nat.{_-_, _≤_}
+use native.Mathlib.Omega.{arith}
+use lib.IntN.{pos}
+use lib.ListN.{length, take, drop, length-set}
+use mir.Syntax.{w8}
+use Rattle.laws.proofs.Prefix.{prefix-map, prefix-map-whole}
+use Rattle.laws.proofs.Signed.{back}
+use Rattle.field.specs.Signed.{byteOf}
+use Rattle.samples.proofs.raw.copy_to_bytes.Statement.{statement}
+use Rattle.samples.proofs.raw.copy_to_bytes.Tie as tie
+
+abbrev Inv-loop : tie.InvT-loop
+Inv-loop samples out₀ i₀ out i = (i ≤ length samples) × (length out ≡ length out₀) × (out ≡ take i (map byteOf samples) ++ drop i out₀)
+
+abbrev μ-loop : tie.MeasureT-loop
+μ-loop samples out₀ i₀ out i = length samples - i
+
+loop-holds : tie.Need-loop-holds Inv-loop μ-loop
+loop-holds c = (omega arith, refl, refl)
+
+shared-slice-copy-out-byte-of-sample : tie.Need-shared-slice-copy-out-byte-of-sample Inv-loop μ-loop
+shared-slice-copy-out-byte-of-sample c = omega arith
+
+byte-of-sample-requires : tie.Need-byte-of-sample-requires Inv-loop μ-loop
+byte-of-sample-requires c κs = tt
+
+slice-write-out : tie.Need-slice-write-out Inv-loop μ-loop
+slice-write-out c = omega arith
+
+add-i : tie.Need-add-i Inv-loop μ-loop
+add-i c = omega arith
+
+loop-less : tie.Need-loop-less Inv-loop μ-loop
+loop-less c = omega arith
+
+loop-again : tie.Need-loop-again Inv-loop μ-loop
+loop-again c =
+    let l = c .before .before .before .loop in
+    let a = c .before .before .before .before .before .args in
+    (omega arith, simp length-set (l .inv .1), prefix-map byteOf (a .samples .now) (a .out .now) (l .out) (l .i) (pos 0) _ (omega arith) (omega arith) (l .inv .2) (c .byte-of-sample .ensures ∙ ap byteOf (back w8 (c .before .byte-of-sample-arg .given))))
+
+same-length : tie.Need-same-length Inv-loop μ-loop
+same-length c = c .before .loop .inv .1
+
+returns : tie.Need-returns Inv-loop μ-loop
+returns c =
+    let l = c .before .loop in
+    let a = c .before .before .before .args in
+    l .inv .2 ∙ prefix-map-whole byteOf (a .samples .now) (a .out .now) (l .i) (omega arith)
+
+pub copy-to-bytes-spec : {M : Type 1} → statement M
+copy-to-bytes-spec =
+    tie.close
+    (tie.spec
+    Inv-loop
+    μ-loop
+    loop-holds
+    shared-slice-copy-out-byte-of-sample
+    byte-of-sample-requires
+    slice-write-out
+    add-i
+    loop-less
+    loop-again
+    same-length
+    returns)

@@ -1,0 +1,15 @@
+-- A point of ATAK or RLSE: milliseconds in 16 bits, then a signed 16.16 level.
+use mathlib.Core.List.{List, _++_}
+use Prim.Native.Nat.{ℕ}
+use lib.ListN.{drop}
+use Rattle.field.specs.BigEndian.{bigEndian, bigEndianBytes}
+use Rattle.field.specs.Signed.{signed32, bits32}
+use Rattle.small_chunks.specs.declared.envelope.EgPoint.{EgPoint}
+
+-- the point of six bytes
+unfoldable pub pointOf : List ℕ → EgPoint
+pointOf l = record { «duration_ms» = bigEndian 2 l; dest = signed32 (bigEndian 4 (drop 2 l)) }
+
+-- the six bytes of a point
+unfoldable pub pointBytes : EgPoint → List ℕ
+pointBytes p = bigEndianBytes 2 (p .«duration_ms») ++ bigEndianBytes 4 (bits32 (p .dest))

@@ -1,0 +1,20 @@
+// The small chunks beside the voice header, CHAN, PAN, the points of ATAK and RLSE, the segments of SEQN, and FADE: their
+// fields, and the rules that they keep.
+//
+// A `read` asks that its field lies within the slice, for the crates above, which have judged lengths by then. A `parse`
+// asks nothing: it answers 6 where the chunk is too short, and ignores what lies past the field.
+mod channel;
+mod envelope;
+mod pan;
+mod sequence;
+
+pub use channel::ChannelAssignment;
+pub use channel::ParsedChannel;
+pub use envelope::EgPoint;
+pub use pan::Pan;
+pub use pan::PanWeights;
+pub use pan::ParsedPan;
+pub use sequence::Fade;
+pub use sequence::ParsedFade;
+pub use sequence::SeqnSegment;
+pub use sequence::Validity;

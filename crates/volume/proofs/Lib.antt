@@ -1,0 +1,2 @@
+-- Laws of the volume's float.
+pub mod VolumeLaws

@@ -1,0 +1,2 @@
+-- The meaning of a volume as a float.
+pub mod Volume
