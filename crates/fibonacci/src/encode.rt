@@ -24,10 +24,8 @@ fn pack_pair(prev: i8, a: i8, b: i8) -> PackedPair
     let middle = fib_step(prev, high);
     let low = fib_pick_nibble(middle, b);
     let last = fib_step(middle, low);
-    PackedPair {
-        byte: high * 16 + low,
-        last,
-    }
+    let byte = high * 16 + low;
+    PackedPair { byte, last }
 }
 
 // The bytes of at least one sample, at the front of `out`.

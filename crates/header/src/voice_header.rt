@@ -123,9 +123,11 @@ impl VoiceHeader {
             if 1 <= k {
                 return SampleCount::Absent;
             }
-            return SampleCount::Samples(n << k);
+            let samples = n << k;
+            return SampleCount::Samples(samples);
         }
-        SampleCount::Samples(n << k)
+        let samples = n << k;
+        SampleCount::Samples(samples)
     }
 
     // The length of octave k.
@@ -170,7 +172,8 @@ impl VoiceHeader {
         if 0xffff_ffff_ffff_ffff / factor < hi {
             return Total::Refused(refusal::OCTAVE_TOTAL);
         }
-        Total::Sum(hi * factor)
+        let sum = hi * factor;
+        Total::Sum(sum)
     }
 
     // That there is a part that repeats.
@@ -197,6 +200,8 @@ impl VoiceHeader {
         if self.samples_per_hi_cycle == 0 {
             return Frequency::Unknown;
         }
-        Frequency::Known(self.samples_per_sec as f64 / self.samples_per_hi_cycle as f64)
+        let rate = self.samples_per_sec as f64;
+        let per_cycle = self.samples_per_hi_cycle as f64;
+        Frequency::Known(rate / per_cycle)
     }
 }

@@ -1,0 +1,60 @@
+-- Worked examples, computed from the definitions.
+-- Assumes nothing.
+use mathlib.Core.Path.{_≡_, refl}
+use mathlib.Core.List.{[], _∷_}
+use lib.IntN.{pos, negsuc}
+use Rattle.refusal.specs.Outcome.{refuses}
+use Rattle.field.specs.Signed.{twosComplement, twosComplementBits}
+use Rattle.fibonacci.specs.Step.{deltas, toSample, fibStep}
+use Rattle.fibonacci.specs.Decode.{nibbles, running, fibSamples, fibChannel}
+use Rattle.fibonacci.specs.Pick.{argmin, distance, fibPick}
+use Rattle.fibonacci.specs.Encode.{picks, packed, fibBytes}
+
+-- 00 64 F1: 100, 121, 100
+pub rises : fibSamples (0x00 ∷ 0x64 ∷ 0xF1 ∷ []) ≡ pos 100 ∷ pos 121 ∷ pos 100 ∷ []
+unfolding fibSamples running nibbles fibStep deltas toSample twosComplement
+rises = refl
+
+-- 00 7F F8: 127 three times
+pub held-high : fibSamples (0x00 ∷ 0x7F ∷ 0xF8 ∷ []) ≡ pos 127 ∷ pos 127 ∷ pos 127 ∷ []
+unfolding fibSamples running nibbles fibStep deltas toSample twosComplement
+held-high = refl
+
+-- 00 80 00: -128 three times
+pub held-low : fibSamples (0x00 ∷ 0x80 ∷ 0x00 ∷ []) ≡ negsuc 127 ∷ negsuc 127 ∷ negsuc 127 ∷ []
+unfolding fibSamples running nibbles fibStep deltas toSample twosComplement
+held-low = refl
+
+-- a single byte is refused by 12
+pub short : fibChannel (0x00 ∷ []) ≡ refuses 12
+short = refl
+
+-- 0, 1: 00 00 98
+pub one-up : fibBytes (pos 0 ∷ pos 1 ∷ []) ≡ 0x00 ∷ 0x00 ∷ 0x98 ∷ []
+unfolding fibBytes picks packed fibPick argmin distance fibStep deltas toSample twosComplementBits
+one-up = refl
+
+-- 0, 4: 00 00 B8, the lower of the two nibbles that lead as near
+pub tie-low : fibBytes (pos 0 ∷ pos 4 ∷ []) ≡ 0x00 ∷ 0x00 ∷ 0xB8 ∷ []
+unfolding fibBytes picks packed fibPick argmin distance fibStep deltas toSample twosComplementBits
+tie-low = refl
+
+-- no samples: 00 00
+pub none : fibBytes [] ≡ 0x00 ∷ 0x00 ∷ []
+unfolding fibBytes
+none = refl
+
+-- 0, 100, 100: 00 00 FF
+pub far : fibBytes (pos 0 ∷ pos 100 ∷ pos 100 ∷ []) ≡ 0x00 ∷ 0x00 ∷ 0xFF ∷ []
+unfolding fibBytes picks packed fibPick argmin distance fibStep deltas toSample twosComplementBits
+far = refl
+
+-- -128, -128: 00 80 08
+pub lowest : fibBytes (negsuc 127 ∷ negsuc 127 ∷ []) ≡ 0x00 ∷ 0x80 ∷ 0x08 ∷ []
+unfolding fibBytes picks packed fibPick argmin distance fibStep deltas toSample twosComplementBits
+lowest = refl
+
+-- 127, 127: 00 7F 88
+pub highest : fibBytes (pos 127 ∷ pos 127 ∷ []) ≡ 0x00 ∷ 0x7F ∷ 0x88 ∷ []
+unfolding fibBytes picks packed fibPick argmin distance fibStep deltas toSample twosComplementBits
+highest = refl

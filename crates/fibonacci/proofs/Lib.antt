@@ -1,0 +1,8 @@
+-- Laws that this crate's proofs and those above cite.
+pub mod StepLaws
+pub mod Least
+pub mod DecodeLaws
+pub mod EncodeLaws
+pub mod OutcomeLaws
+pub mod Survive
+pub mod Examples

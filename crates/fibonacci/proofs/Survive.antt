@@ -1,0 +1,93 @@
+-- What was decoded survives being written and decoded: a sample that a nibble reaches is reached by the nibble that is picked for it.
+-- What the writer wrote is decoded as the samples that it reckoned with. A step and a choice are known by their laws alone.
+-- Assumes nothing.
+use mathlib.Core.Path.{_≡_, refl, sym, ap, _∙_}
+use mathlib.Core.Bool.{Bool, true, false, cond}
+use mathlib.Core.List.{List, [], _∷_}
+use Prim.Native.Nat.{ℕ, zero, suc, _+_, _-_, _*_, _/_, _%_, _≤_, _<_}
+use native.Mathlib.Omega.{arith}
+use borrow.Author.Tests.{ltb-true, ltb-false}
+use lib.Dec.{ltb}
+use lib.IntN.{ℤ, pos, negsuc}
+use lib.ListN.{length, getD, take, drop}
+use lib.Seq.{take-all}
+use mir.Syntax.{w8}
+use mir.Val.{SFits}
+use Rattle.laws.proofs.Signed.{zarith}
+use Rattle.field.specs.Signed.{twosComplement, sampleOf}
+use Rattle.field.proofs.SignedLaws.{sample-byte}
+use Rattle.fibonacci.specs.Step.{fibStep}
+use Rattle.fibonacci.specs.Pick.{fibPick}
+use Rattle.fibonacci.specs.Decode.{nibbles, running, fibSamples}
+use Rattle.fibonacci.specs.Encode.{picks, packed, fibBytes}
+use Rattle.fibonacci.proofs.StepLaws.{step-past}
+use Rattle.fibonacci.proofs.Least.{pick-exact, pick-below}
+use Rattle.fibonacci.proofs.DecodeLaws.{nibbles-length, running-length, samples-length, running-first}
+use Rattle.fibonacci.proofs.EncodeLaws.{bytes-length}
+
+-- ---- what the writer wrote, decoded
+
+high-nibble : (a b : ℕ) → b < 16 → (a * 16 + b) / 16 ≡ a
+high-nibble a b h = omega arith
+
+low-nibble : (a b : ℕ) → b < 16 → (a * 16 + b) % 16 ≡ b
+low-nibble a b h = omega arith
+
+-- the nibbles of the bytes are those that were picked; beside an odd last one stands one more
+packed-nibbles : (s : ℤ) (xs : List ℤ) → take (length xs) (nibbles (packed (picks s xs))) ≡ picks s xs
+unfolding picks packed nibbles
+packed-nibbles s [] = refl
+packed-nibbles s (a ∷ []) = rw (high-nibble (fibPick s a) 8 (omega arith))
+packed-nibbles s (a ∷ (b ∷ xs)) =
+    let s′ = fibStep s (fibPick s a) in
+    rw (high-nibble (fibPick s a) (fibPick s′ b) (pick-below s′ b), low-nibble (fibPick s a) (fibPick s′ b) (pick-below s′ b), packed-nibbles (fibStep s′ (fibPick s′ b)) xs)
+
+take-running : (n : ℕ) (s : ℤ) (ks : List ℕ) → take (suc n) (running s ks) ≡ running s (take n ks)
+unfolding running
+take-running zero s [] = refl
+take-running (suc n) s [] = refl
+take-running zero s (k ∷ ks) = refl
+take-running (suc n) s (k ∷ ks) = ap (λ (l : List ℤ). s ∷ l) (take-running n (fibStep s k) ks)
+
+-- as many samples as were written, each as the writer reckoned that the decoder would have it
+pub written-first : (x : ℤ) (xs : List ℤ) → SFits w8 x → take (suc (length xs)) (fibSamples (fibBytes (x ∷ xs))) ≡ running x (picks x xs)
+unfolding fibSamples fibBytes
+written-first x xs f = rw (sample-byte x f) (take-running (length xs) x (nibbles (packed (picks x xs))) ∙ ap (running x) (packed-nibbles x xs))
+
+-- ---- what was decoded, written
+
+-- a number as a sample: it fits 8 bits
+sample-fits : (b : ℕ) → SFits w8 (sampleOf b)
+unfolding twosComplement
+sample-fits b = go (ltb b 128) refl
+  where
+    go : (t : Bool) → ltb b 128 ≡ t → SFits w8 (cond t (pos b) (negsuc (128 + 128 - suc b)))
+    go true e = omega (zarith, ltb-true b 128 e)
+    go false e = omega (zarith, ltb-false b 128 e)
+
+step-reached : (s : ℤ) (k : ℕ) → fibStep s (fibPick s (fibStep s k)) ≡ fibStep s k
+step-reached s k = go (ltb k 16) refl
+  where
+    go : (t : Bool) → ltb k 16 ≡ t → fibStep s (fibPick s (fibStep s k)) ≡ fibStep s k
+    go true e = pick-exact s k (omega (arith, ltb-true k 16 e))
+    go false e = rw (step-past s k (ltb-false k 16 e)) (pick-exact s 8 (omega arith))
+
+running-reached : (s : ℤ) (ks : List ℕ) → running s (picks s (drop 1 (running s ks))) ≡ running s ks
+unfolding running picks
+running-reached s [] = refl
+running-reached s (k ∷ ks) =
+    let y = fibStep s k in
+    ap (λ (l : List ℤ). running s (picks s l)) (running-first y ks) ∙ rw (step-reached s k) (ap (λ (l : List ℤ). s ∷ l) (running-reached y ks))
+
+-- samples that come of whole bytes, so that there is an odd number of them
+whole-survives : (s : ℤ) (bs : List ℕ) → SFits w8 s → fibSamples (fibBytes (running s (nibbles bs))) ≡ running s (nibbles bs)
+whole-survives s bs f =
+    let ks = nibbles bs in
+    let xs = drop 1 (running s ks) in
+    let first = running-first s ks in
+    let no-more : length (fibSamples (fibBytes (s ∷ xs))) ≤ suc (length xs) = omega (arith, samples-length (fibBytes (s ∷ xs)), bytes-length (s ∷ xs), ap length first, running-length s ks, nibbles-length bs) in
+    ap (λ (l : List ℤ). fibSamples (fibBytes l)) first ∙ sym (take-all (suc (length xs)) _ no-more) ∙ written-first s xs f ∙ running-reached s ks
+
+pub survives : (body : List ℕ) → fibSamples (fibBytes (fibSamples body)) ≡ fibSamples body
+unfolding fibSamples
+survives body = whole-survives (sampleOf (getD body 1 0)) (drop 2 body) (sample-fits (getD body 1 0))
