@@ -23,7 +23,7 @@ nibbles-length (b ∷ bs) = omega (arith, nibbles-length bs)
 pub running-length : (s : ℤ) (ks : List ℕ) → length (running s ks) ≡ suc (length ks)
 unfolding running
 running-length s [] = refl
-running-length s (k ∷ ks) = ap suc (running-length (fibStep s k) ks)
+running-length s (k ∷ ks) = ap suc (running-length _ ks)
 
 -- the first, and two for each byte after the first two
 pub samples-length : (body : List ℕ) → length (fibSamples body) ≡ 2 * (length body - 2) + 1

@@ -2,7 +2,7 @@
 -- Assumes nothing.
 use mathlib.Core.Path.{_≡_, refl, sym, ap, _∙_}
 use mathlib.Core.List.{List, [], _∷_, _++_}
-use Prim.Native.Nat.{ℕ, suc, _+_, _-_, _*_, _/_, _<_}
+use Prim.Native.Nat.{ℕ, suc, _+_, _*_, _/_, _<_}
 use native.Mathlib.Nat.{not-suc-le-zero}
 use native.Mathlib.Numerals.{add-one}
 use native.Mathlib.Omega.{arith}
@@ -12,7 +12,6 @@ use lib.Seq.{drop-cons}
 use Rattle.laws.specs.Buffer.{written}
 use Rattle.laws.proofs.Prefix.{rest-past, prefix-next}
 use Rattle.field.specs.Signed.{byteOf}
-use Rattle.fibonacci.specs.Step.{fibStep}
 use Rattle.fibonacci.specs.Pick.{fibPick}
 use Rattle.fibonacci.specs.Encode.{picks, packed, fibBytes, packedPair}
 
@@ -21,7 +20,7 @@ use Rattle.fibonacci.specs.Encode.{picks, packed, fibBytes, packedPair}
 pub picks-length : (s : ℤ) (xs : List ℤ) → length (picks s xs) ≡ length xs
 unfolding picks
 picks-length s [] = refl
-picks-length s (x ∷ xs) = ap suc (picks-length (fibStep s (fibPick s x)) xs)
+picks-length s (x ∷ xs) = ap suc (picks-length _ xs)
 
 pub packed-length : (ks : List ℕ) → length (packed ks) ≡ (length ks + 1) / 2
 unfolding packed

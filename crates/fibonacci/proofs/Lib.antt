@@ -3,6 +3,5 @@ pub mod StepLaws
 pub mod Least
 pub mod DecodeLaws
 pub mod EncodeLaws
-pub mod OutcomeLaws
 pub mod Survive
 pub mod Examples

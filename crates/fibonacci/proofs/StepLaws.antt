@@ -1,7 +1,7 @@
 -- Laws of a step: a sum brought back into a sample's range fits 8 bits, so every step does. No other file of laws looks into `toSample` or `fibStep`.
 -- Assumes nothing.
 use mathlib.Core.Path.{_≡_, refl, ap}
-use Prim.Native.Nat.{ℕ, _+_, _-_, _≤_, min}
+use Prim.Native.Nat.{ℕ, _-_, _≤_, min}
 use native.Mathlib.Omega.{arith}
 use lib.IntN.{ℤ, pos, negsuc, _+ℤ_}
 use lib.ListN.{List·getD-eq-default}

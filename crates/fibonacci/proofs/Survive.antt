@@ -56,10 +56,10 @@ written-first x xs f = rw (sample-byte x f) (take-running (length xs) x (nibbles
 
 -- ---- what was decoded, written
 
--- a number as a sample: it fits 8 bits
-sample-fits : (b : ℕ) → SFits w8 (sampleOf b)
+-- a byte read as a sample fits 8 bits
+byte-fits : (b : ℕ) → SFits w8 (sampleOf b)
 unfolding twosComplement
-sample-fits b = go (ltb b 128) refl
+byte-fits b = go (ltb b 128) refl
   where
     go : (t : Bool) → ltb b 128 ≡ t → SFits w8 (cond t (pos b) (negsuc (128 + 128 - suc b)))
     go true e = omega (zarith, ltb-true b 128 e)
@@ -90,4 +90,4 @@ whole-survives s bs f =
 
 pub survives : (body : List ℕ) → fibSamples (fibBytes (fibSamples body)) ≡ fibSamples body
 unfolding fibSamples
-survives body = whole-survives (sampleOf (getD body 1 0)) (drop 2 body) (sample-fits (getD body 1 0))
+survives body = whole-survives (sampleOf (getD body 1 0)) (drop 2 body) (byte-fits (getD body 1 0))

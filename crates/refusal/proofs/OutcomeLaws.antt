@@ -1,4 +1,4 @@
--- The answer and the buffer of an entry whose input gives an output of n elements, where that fits and where it doesn't.
+-- The answer and the buffer of an entry: where its input is refused, and where it gives an output of n elements that fits or doesn't.
 -- Assumes nothing.
 use mathlib.Core.Path.{_≡_, refl, ap}
 use mathlib.Core.List.{List}
@@ -7,7 +7,7 @@ use borrow.Author.Tests.{le-leb, lt-leb}
 use lib.ListN.{length}
 use Rattle.laws.specs.Buffer.{written}
 use Rattle.refusal.specs.Numbers.{bufferShort}
-use Rattle.refusal.specs.Outcome.{gives, answer, bufferAfter}
+use Rattle.refusal.specs.Outcome.{Outcome, gives, refuses, answer, bufferAfter}
 use Rattle.refusal.specs.declared.Output.the-variants.{Length, Refused}
 
 module _ {A : Type 0} (xs buffer : List A) (n : ℕ) (e : n ≡ length xs) where
@@ -20,3 +20,15 @@ module _ {A : Type 0} (xs buffer : List A) (n : ℕ) (e : n ≡ length xs) where
   output-short h =
       let short : length buffer < length xs = rw (← e) h in
       rw (lt-leb (length xs) (length buffer) short) (refl, refl)
+
+-- the same of an outcome that is known by an equation
+module _ {A : Type 0} (outcome : Outcome (List A)) (buffer : List A) where
+  pub outcome-refused : (number : ℕ) → outcome ≡ refuses number → (Refused number ≡ answer outcome (length buffer)) × (buffer ≡ bufferAfter outcome buffer)
+  outcome-refused number e = rw e (refl, refl)
+
+  module _ (xs : List A) (g : outcome ≡ gives xs) (n : ℕ) (e : n ≡ length xs) where
+    pub outcome-fits : (now′ : List A) → n ≤ length buffer → now′ ≡ written xs buffer → (Length n ≡ answer outcome (length buffer)) × (now′ ≡ bufferAfter outcome buffer)
+    outcome-fits now′ h w = rw g (output-fits xs buffer n e now′ h w)
+
+    pub outcome-short : length buffer < n → (Refused bufferShort ≡ answer outcome (length buffer)) × (buffer ≡ bufferAfter outcome buffer)
+    outcome-short h = rw g (output-short xs buffer n e h)

@@ -163,6 +163,26 @@ fn two_fibonacci(body: &[u8], frames: usize, out: &mut [u8]) -> Output
     Output::Length(length)
 }
 
+fn decode_one(body: &[u8], c: Compression, frames: usize, out: &mut [u8]) -> Output
+    ensures result { λ r. ⌜ r ≡ answer (oneChannel c frames (now (body .entry))) (length (now (out .entry))) ⌝ }
+    ensures buffer { λ _. ⌜ now (out .exit) ≡ bufferAfter (oneChannel c frames (now (body .entry))) (now (out .entry)) ⌝ }
+{
+    match c {
+        Compression::None => one_raw(body, frames, out),
+        Compression::Fibonacci => one_fibonacci(body, frames, out),
+    }
+}
+
+fn decode_two(body: &[u8], c: Compression, frames: usize, out: &mut [u8]) -> Output
+    ensures result { λ r. ⌜ r ≡ answer (twoChannels c frames (now (body .entry))) (length (now (out .entry))) ⌝ }
+    ensures buffer { λ _. ⌜ now (out .exit) ≡ bufferAfter (twoChannels c frames (now (body .entry))) (now (out .entry)) ⌝ }
+{
+    match c {
+        Compression::None => two_raw(body, frames, out),
+        Compression::Fibonacci => two_fibonacci(body, frames, out),
+    }
+}
+
 // BODY as interleaved bytes, at most `frames` of each channel, given the compression as its header byte. 0 channels count as
 // 1, more than 2 as 2. Refused by 10, 11, 12 and 20, in that order.
 pub fn decode_body(
@@ -178,19 +198,11 @@ pub fn decode_body(
     let known = known_compression(compression);
     match known {
         KnownCompression::Refused(number) => Output::Refused(number),
-        KnownCompression::Known(c) => match c {
-            Compression::None => {
-                if 1 < channels {
-                    return two_raw(body, frames, out);
-                }
-                one_raw(body, frames, out)
+        KnownCompression::Known(c) => {
+            if 1 < channels {
+                return decode_two(body, c, frames, out);
             }
-            Compression::Fibonacci => {
-                if 1 < channels {
-                    return two_fibonacci(body, frames, out);
-                }
-                one_fibonacci(body, frames, out)
-            }
-        },
+            decode_one(body, c, frames, out)
+        }
     }
 }

@@ -26,7 +26,7 @@ Inv-loop body out₀ n prev₀ pairs j₀ out prev j =
 abbrev μ-loop : tie.MeasureT-loop
 μ-loop body out₀ n prev₀ pairs j₀ out prev j = pairs - j
 
--- the bytes, and what the buffer held before the first sample was stored
+-- the bytes, what the buffer held before the first sample was stored, and how many samples are asked for
 abbrev body : tie.At-loop Inv-loop μ-loop → List ℕ
 body l = l .before .before .before .before .before .args .body .now
 
@@ -40,10 +40,7 @@ module _ (l : tie.At-loop Inv-loop μ-loop) where
   same-room : length (l .loop .out) ≡ length (held l)
   same-room = l .loop .inv .1 ∙ simp length-set
 
-  whole : length (fibSamples (body l)) ≡ 2 * (length (body l) - 2) + 1
-  whole = samples-length (body l)
-
-  ended : (out first : _) → out ≡ take (count l) (fibSamples (body l)) ++ drop (count l) (set (held l) 0 first) → out ≡ written (take (count l) (fibSamples (body l))) (held l)
+  ended : (out : List ℤ) (first : ℤ) → out ≡ take (count l) (fibSamples (body l)) ++ drop (count l) (set (held l) 0 first) → out ≡ written (take (count l) (fibSamples (body l))) (held l)
   ended out first e = e ∙ rw (drop-set-lt (count l) (held l) 0 first (omega arith)) (prefix-part (fibSamples (body l)) (held l) (count l) (omega arith))
 
 returns : tie.Need-returns Inv-loop μ-loop
@@ -72,13 +69,13 @@ add-at : tie.Need-add-at Inv-loop μ-loop
 add-at c = omega arith
 
 shared-slice-read-b : tie.Need-shared-slice-read-b Inv-loop μ-loop
-shared-slice-read-b c = omega (arith, whole (c .before .before))
+shared-slice-read-b c = omega (arith, samples-length (body (c .before .before)))
 
 fib-step-requires : tie.Need-fib-step-requires Inv-loop μ-loop
 fib-step-requires c κs = omega (arith, c .shared-slice-known3 .given (2 + c .before .before .loop .j))
 
 fib-step-requires-2 : tie.Need-fib-step-requires-2 Inv-loop μ-loop
-fib-step-requires-2 c κs = omega arith
+fib-step-requires-2 c κs = omega (arith, c .before .shared-slice-known3 .given (2 + c .before .before .before .loop .j))
 
 mul-i : tie.Need-mul-i Inv-loop μ-loop
 mul-i c = omega arith
@@ -110,7 +107,7 @@ loop-again c =
     let l = at .loop in
     let high-is = back w8 (c .before .fib-step .ok) ∙ c .before .fib-step .ensures in
     let low-is = back w8 (c .fib-step2 .ok) ∙ c .fib-step2 .ensures in
-    let more : 2 + l .j < length (body at) = omega (arith, whole at) in (
+    let more : 2 + l .j < length (body at) = omega (arith, samples-length (body at)) in (
       omega arith,
       simp length-set (same-room at),
       low-stored (body at) _ _ _ (l .j) _ _ (l .inv .3) more high-is (l .inv .2) _ low-is (omega (arith, same-room at)),
@@ -121,7 +118,7 @@ add-at-2 : tie.Need-add-at-2 Inv-loop μ-loop
 add-at-2 c = omega arith
 
 shared-slice-read-b-2 : tie.Need-shared-slice-read-b-2 Inv-loop μ-loop
-shared-slice-read-b-2 c = omega (arith, whole (c .before .before .before))
+shared-slice-read-b-2 c = omega (arith, samples-length (body (c .before .before .before)))
 
 sub-last : tie.Need-sub-last Inv-loop μ-loop
 sub-last c = omega arith
@@ -143,7 +140,7 @@ returns-2 c =
     let last : 2 * l .j + 1 ≡ count at - 1 = omega arith in
     let end : 2 * l .j + 2 ≡ count at = omega arith in
     let high-is = rw all-pairs at (back w8 (c .fib-step3 .ok) ∙ c .fib-step3 .ensures) in
-    let more : 2 + l .j < length (body at) = omega (arith, whole at) in
+    let more : 2 + l .j < length (body at) = omega (arith, samples-length (body at)) in
     ended at _ _ (rw (last, end) at (high-stored (body at) _ _ _ (l .j) _ _ (l .inv .3) more high-is (l .inv .2) (omega (arith, same-room at))))
 
 same-length-2 : tie.Need-same-length-2 Inv-loop μ-loop

@@ -9,7 +9,7 @@ use lib.ListN.{length}
 use lib.Seq.{take-all}
 use Rattle.fibonacci.specs.Decode.{fibSamples}
 use Rattle.fibonacci.proofs.DecodeLaws.{samples-length}
-use Rattle.fibonacci.proofs.OutcomeLaws.{output-fits, output-short}
+use Rattle.refusal.proofs.OutcomeLaws.{output-fits, output-short}
 use Rattle.fibonacci.proofs.decode.fibonacci_decode_channel.Statement.{statement}
 use Rattle.fibonacci.proofs.decode.fibonacci_decode_channel.Tie as tie
 

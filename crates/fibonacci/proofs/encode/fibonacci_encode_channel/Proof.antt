@@ -5,7 +5,7 @@ use native.Mathlib.Omega.{arith}
 use lib.ListN.{length-set}
 use Rattle.fibonacci.specs.Encode.{fibBytes}
 use Rattle.fibonacci.proofs.EncodeLaws.{bytes-length, none-stored}
-use Rattle.fibonacci.proofs.OutcomeLaws.{output-fits, output-short}
+use Rattle.refusal.proofs.OutcomeLaws.{output-fits, output-short}
 use borrow.Author.Needs.{needs}
 use Rattle.fibonacci.proofs.encode.fibonacci_encode_channel.Statement.{statement}
 use Rattle.fibonacci.proofs.encode.fibonacci_encode_channel.Tie as tie

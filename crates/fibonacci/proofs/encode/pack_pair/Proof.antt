@@ -29,7 +29,7 @@ fib-step-requires-2 : tie.Need-fib-step-requires-2
 fib-step-requires-2 c κs = low-below c
 
 mul-byte : tie.Need-mul-byte
-mul-byte c = omega (arith, high-below (c .before .before .before))
+mul-byte c = omega (arith, high-below (c .before .before .before), low-below (c .before))
 
 add-byte : tie.Need-add-byte
 add-byte c = omega (arith, high-below (c .before .before .before), low-below (c .before))
