@@ -2,20 +2,19 @@
 -- What the writer wrote is decoded as the samples that it reckoned with. A step and a choice are known by their laws alone.
 -- Assumes nothing.
 use mathlib.Core.Path.{_≡_, refl, sym, ap, _∙_}
-use mathlib.Core.Bool.{Bool, true, false, cond}
+use mathlib.Core.Bool.{Bool, true, false}
 use mathlib.Core.List.{List, [], _∷_}
 use Prim.Native.Nat.{ℕ, zero, suc, _+_, _-_, _*_, _/_, _%_, _≤_, _<_}
 use native.Mathlib.Omega.{arith}
 use borrow.Author.Tests.{ltb-true, ltb-false}
 use lib.Dec.{ltb}
-use lib.IntN.{ℤ, pos, negsuc}
+use lib.IntN.{ℤ}
 use lib.ListN.{length, getD, take, drop}
 use lib.Seq.{take-all}
 use mir.Syntax.{w8}
 use mir.Val.{SFits}
-use Rattle.laws.proofs.Signed.{zarith}
-use Rattle.field.specs.Signed.{twosComplement, sampleOf}
-use Rattle.field.proofs.SignedLaws.{sample-byte}
+use Rattle.field.specs.Signed.{sampleOf}
+use Rattle.field.proofs.SignedLaws.{sample-byte, sample-fits}
 use Rattle.fibonacci.specs.Step.{fibStep}
 use Rattle.fibonacci.specs.Pick.{fibPick}
 use Rattle.fibonacci.specs.Decode.{nibbles, running, fibSamples}
@@ -56,15 +55,6 @@ written-first x xs f = rw (sample-byte x f) (take-running (length xs) x (nibbles
 
 -- ---- what was decoded, written
 
--- a byte read as a sample fits 8 bits
-byte-fits : (b : ℕ) → SFits w8 (sampleOf b)
-unfolding twosComplement
-byte-fits b = go (ltb b 128) refl
-  where
-    go : (t : Bool) → ltb b 128 ≡ t → SFits w8 (cond t (pos b) (negsuc (128 + 128 - suc b)))
-    go true e = omega (zarith, ltb-true b 128 e)
-    go false e = omega (zarith, ltb-false b 128 e)
-
 step-reached : (s : ℤ) (k : ℕ) → fibStep s (fibPick s (fibStep s k)) ≡ fibStep s k
 step-reached s k = go (ltb k 16) refl
   where
@@ -90,4 +80,4 @@ whole-survives s bs f =
 
 pub survives : (body : List ℕ) → fibSamples (fibBytes (fibSamples body)) ≡ fibSamples body
 unfolding fibSamples
-survives body = whole-survives (sampleOf (getD body 1 0)) (drop 2 body) (byte-fits (getD body 1 0))
+survives body = whole-survives (sampleOf (getD body 1 0)) (drop 2 body) (sample-fits (getD body 1 0))

@@ -1,13 +1,13 @@
 -- The laws of big-endian numbers: by these the functions are proved, here and above. No proof elsewhere unfolds the definitions.
---     bytes-number     what was written reads back, at any width
---     number-bytes     what was read writes back, of bytes
+--     bytes-number, number-back     what was written reads back, at any width, whatever follows it
+--     number-bytes                  what was read writes back, of bytes
 -- Assumes nothing.
-use Prim.Native.Nat.{ℕ, zero, suc, _+_, _*_, _/_, _%_, _^_, _≤_, _<_, zero-le}
+use Prim.Native.Nat.{ℕ, zero, suc, _+_, _*_, _/_, _%_, _^_, _≤_, _<_}
 use lib.ListN.{length, getD, drop, take, List·getD-append}
 use lib.Seq.{getD-drop, getD-take}
 use mathlib.Core.List.{List, [], _∷_, _++_}
 use mathlib.Core.Path.{_≡_, refl, sym, ap, _∙_}
-use native.Mathlib.Nat.{add-zero, add-comm, add-mul, mul-assoc, mul-comm, mul-right-comm, mul-le-mul-right, one-mul, mod-one, mod-lt, pow-suc, one-le-pow, div-add-mod', mul-add-mod-self-left, mul-add-mod-self-right, mod-eq-of-lt, mul-add-div-right, div-eq-of-lt, not-suc-le-zero, le-of-suc-le-suc, div-one}
+use native.Mathlib.Nat.{add-zero, add-mul, mul-assoc, mul-comm, mul-right-comm, mul-le-mul-right, mod-one, mod-lt, pow-suc, one-le-pow, div-add-mod', mul-add-mod-self-left, mul-add-mod-self-right, mod-eq-of-lt, mul-add-div-right, div-eq-of-lt, not-suc-le-zero, le-of-suc-le-suc}
 use native.Mathlib.Omega.{arith}
 use Rattle.field.specs.BigEndian.{bigEndian, bigEndianBytes}
 
@@ -76,6 +76,10 @@ bytes-mod (suc n) v = number-cons n (v / 256 ^ n % 256) (bigEndianBytes n v) ∙
 pub bytes-number : (n v : ℕ) → v < 256 ^ n → bigEndian n (bigEndianBytes n v) ≡ v
 bytes-number n v h = bytes-mod n v ∙ mod-eq-of-lt h
 
+-- whatever follows the bytes
+pub number-back : (n v : ℕ) (rest : List ℕ) → v < 256 ^ n → bigEndian n (bigEndianBytes n v ++ rest) ≡ v
+number-back n v rest h = number-append n (bigEndianBytes n v) rest (omega (arith, bytes-length n v)) ∙ bytes-number n v h
+
 -- ---- of bytes, the other way
 
 -- every element is below 256, as it is in a slice of bytes
@@ -84,6 +88,15 @@ Bytes l = (i : ℕ) → getD l i 0 < 256
 
 pub bytes-tail : (b : ℕ) (l : List ℕ) → Bytes (b ∷ l) → Bytes l
 bytes-tail b l h i = h (suc i)
+
+pub bytes-take : (n : ℕ) (l : List ℕ) → Bytes l → Bytes (take n l)
+bytes-take zero l h i = omega arith
+bytes-take (suc n) [] h i = omega arith
+bytes-take (suc n) (b ∷ l) h zero = h 0
+bytes-take (suc n) (b ∷ l) h (suc i) = bytes-take n l (bytes-tail b l h) i
+
+pub bytes-drop : (n : ℕ) (l : List ℕ) → Bytes l → Bytes (drop n l)
+bytes-drop n l h i = rw getD-drop (h (n + i))
 
 pub number-fits : (n : ℕ) (l : List ℕ) → Bytes l → bigEndian n l < 256 ^ n
 number-fits zero l h = rw (number-none l) (omega arith)

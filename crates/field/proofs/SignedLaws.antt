@@ -4,6 +4,7 @@ use mathlib.Core.Path.{_≡_, refl}
 use mathlib.Core.Bool.{Bool, true, false, cond}
 use Prim.Native.Nat.{ℕ, suc, _+_, _-_, _^_, _≤_, _<_}
 use native.Mathlib.Omega.{arith}
+use borrow.Author.Tests.{ltb-true, ltb-false}
 use lib.Dec.{T, ltb}
 use lib.IntN.{ℤ, pos, negsuc, natAbs}
 use lib.Signed.{mag, ltZ, nonNeg}
@@ -46,6 +47,15 @@ bits-signed w b f = rw (← read-is w b, ← bits-are w (toZ w b)) (ofZ-toZ {w =
 
 pub sample-byte : (s : ℤ) → SFits w8 s → sampleOf (byteOf s) ≡ s
 sample-byte s f = signed-bits w8 s f
+
+-- whatever the number, its sample fits
+pub sample-fits : (b : ℕ) → SFits w8 (sampleOf b)
+unfolding twosComplement
+sample-fits b = go (ltb b 128) refl
+  where
+    go : (t : Bool) → ltb b 128 ≡ t → SFits w8 (cond t (pos b) (negsuc (128 + 128 - suc b)))
+    go true e = omega (zarith, ltb-true b 128 e)
+    go false e = omega (zarith, ltb-false b 128 e)
 
 pub byte-sample : (b : ℕ) → b < 256 → byteOf (sampleOf b) ≡ b
 byte-sample b h = bits-signed w8 b (record { fits = h })

@@ -6,12 +6,11 @@
 use Prim.Native.Nat.{ℕ, _+_, _^_, _≤_, _<_}
 use mathlib.Core.List.{List, [], _∷_, _++_, append-assoc}
 use mathlib.Core.Path.{_≡_, sym, ap, _∙_}
-use native.Mathlib.Nat.{le-of-eq}
 use native.Mathlib.Omega.{arith}
 use lib.ListN.{length, getD, take, drop, length-append, length-drop}
 use lib.Seq.{getD-drop, drop-drop, drop-at, take-add, drop-cons}
 use Rattle.field.specs.BigEndian.{bigEndian, bigEndianBytes}
-use Rattle.field.proofs.BigEndianLaws.{Bytes, bytes-length, bytes-number, number-append, number-bytes, number-fits}
+use Rattle.field.proofs.BigEndianLaws.{Bytes, bytes-length, bytes-drop, number-back, number-bytes, number-fits}
 use Rattle.header.specs.Header.{headerOf, headerBytes}
 use Rattle.header.specs.declared.«voice_header».VoiceHeader.{VoiceHeader}
 
@@ -34,7 +33,7 @@ pub record Fitting (h : VoiceHeader) : Type 0 where
 -- where a number's bytes stand at a place, it is read there, and what comes after them is n places on
 module _ (n v at : ℕ) (l rest : List ℕ) (e : drop at l ≡ bigEndianBytes n v ++ rest) where
   read-at : v < 256 ^ n → bigEndian n (drop at l) ≡ v
-  read-at h = rw (e, number-append n (bigEndianBytes n v) rest (le-of-eq (sym (bytes-length n v)))) (bytes-number n v h)
+  read-at h = rw e (number-back n v rest h)
 
   past : drop (at + n) l ≡ rest
   past = sym (drop-drop n at l) ∙ ap (drop n) e ∙ drop-at (bigEndianBytes n v) rest n (bytes-length n v)
@@ -67,25 +66,22 @@ header-back h rest f =
 -- ---- read, then written
 
 module _ (l : List ℕ) (b : Bytes l) where
-  bytes-from : (at : ℕ) → Bytes (drop at l)
-  bytes-from at i = rw (getD-drop at l i 0) (b (at + i))
-
   -- what is read fits
   pub header-fits : Fitting (headerOf l)
   unfolding headerOf
   header-fits = record {
     one-shot = number-fits 4 l b;
-    repeat = number-fits 4 (drop 4 l) (bytes-from 4);
-    cycle = number-fits 4 (drop 8 l) (bytes-from 8);
-    rate = number-fits 2 (drop 12 l) (bytes-from 12);
+    repeat = number-fits 4 (drop 4 l) (bytes-drop 4 l b);
+    cycle = number-fits 4 (drop 8 l) (bytes-drop 8 l b);
+    rate = number-fits 2 (drop 12 l) (bytes-drop 12 l b);
     octave-count = b 14;
     compression = b 15;
-    volume = number-fits 4 (drop 16 l) (bytes-from 16);
+    volume = number-fits 4 (drop 16 l) (bytes-drop 16 l b);
   }
 
   -- a number, written after the bytes before it
   then-number : (at n : ℕ) → at + n ≤ length l → take at l ++ bigEndianBytes n (bigEndian n (drop at l)) ≡ take (at + n) l
-  then-number at n h = rw (number-bytes n (drop at l) (bytes-from at) (rw length-drop (omega arith))) (sym (take-add at n l))
+  then-number at n h = rw (number-bytes n (drop at l) (bytes-drop at l b) (rw length-drop (omega arith))) (sym (take-add at n l))
 
   pub bytes-back : 20 ≤ length l → headerBytes (headerOf l) ≡ take 20 l
   unfolding headerOf headerBytes

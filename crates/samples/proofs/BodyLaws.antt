@@ -1,27 +1,23 @@
 -- What a BODY gives, case by case, and that a raw byte is its sample's byte.
 -- Assumes nothing.
 use mathlib.Core.Path.{_≡_, refl, sym, ap, _∙_}
-use mathlib.Core.Bool.{Bool, true, false}
 use mathlib.Core.List.{List, [], _∷_, map}
-use Prim.Native.Nat.{ℕ, zero, suc, _+_, _-_, _*_, _/_, _%_, _≤_, _<_, min}
-use native.Mathlib.Nat.{le-of-suc-le-suc}
+use Prim.Native.Nat.{ℕ, zero, suc, _+_, _-_, _/_, _%_, _≤_, _<_, min}
 use native.Mathlib.Omega.{arith}
 use borrow.Author.Tests.{lt-ltb, le-ltb, ne-eqb}
-use lib.Dec.{ltb, eqb}
 use lib.IntN.{ℤ, pos}
 use lib.ListN.{length, take, drop, getD, length-map, length-take, length-drop, List·getD-map}
-use lib.Seq.{getD-drop, getD-take, length-take-le}
+use lib.Seq.{getD-take, length-take-le}
 use Rattle.refusal.specs.Numbers.{oddHalves, channelShort}
-use Rattle.refusal.specs.Outcome.{Outcome, gives, refuses}
+use Rattle.refusal.specs.Outcome.{gives, refuses}
 use Rattle.field.specs.Signed.{twosComplementBits, sampleOf, byteOf}
-use Rattle.field.proofs.BigEndianLaws.{Bytes, bytes-tail}
+use Rattle.field.proofs.BigEndianLaws.{Bytes, bytes-tail, bytes-take, bytes-drop}
 use Rattle.field.proofs.SignedLaws.{byte-sample}
 use Rattle.header.specs.Compression.{knownCompression}
 use Rattle.header.specs.declared.compression.Compression.{Compression}
 use Rattle.header.specs.declared.compression.Compression.the-variants.{None, Fibonacci}
 use Rattle.header.specs.declared.compression.KnownCompression.the-variants.{Known, Refused}
 use Rattle.fibonacci.specs.Decode.{fibSamples}
-use Rattle.fibonacci.proofs.DecodeLaws.{samples-length}
 use Rattle.samples.specs.Stream.{stream}
 use Rattle.samples.specs.Halves.{leftHalf, rightHalf}
 use Rattle.samples.specs.Body.{interleaved, frameBytes, oneChannel, twoChannels, decodedBody}
@@ -39,15 +35,6 @@ take-least (suc n) (x ∷ l) =
     rw both (ap (_∷_ x) (take-least n l))
 
 -- ---- raw bytes
-
-pub bytes-take : (n : ℕ) (l : List ℕ) → Bytes l → Bytes (take n l)
-bytes-take zero l h i = omega arith
-bytes-take (suc n) [] h i = omega arith
-bytes-take (suc n) (b ∷ l) h zero = h 0
-bytes-take (suc n) (b ∷ l) h (suc i) = bytes-take n l (bytes-tail b l h) i
-
-pub bytes-drop : (n : ℕ) (l : List ℕ) → Bytes l → Bytes (drop n l)
-bytes-drop n l h i = rw getD-drop (h (n + i))
 
 raw-frames : (limit : ℕ) (l : List ℕ) → Bytes l → frameBytes limit (map sampleOf l) ≡ take limit l
 raw-frames zero l h = refl

@@ -10,13 +10,13 @@ use Prim.Native.Nat.{ℕ, _+_, _^_, _≤_, _<_}
 use native.Mathlib.Omega.{arith}
 use lib.IntN.{ℤ}
 use lib.ListN.{length, take, drop, length-append, length-drop}
-use lib.Seq.{take-add, drop-at, getD-drop}
+use lib.Seq.{take-add, drop-at}
 use mir.Syntax.{w32}
 use mir.Val.{SFits}
 use mir.Facts.{fits-ofZ}
 use Rattle.field.specs.BigEndian.{bigEndian, bigEndianBytes}
 use Rattle.field.specs.Signed.{signed32, bits32}
-use Rattle.field.proofs.BigEndianLaws.{Bytes, bytes-length, bytes-number, number-append, number-bytes, number-fits}
+use Rattle.field.proofs.BigEndianLaws.{Bytes, bytes-length, bytes-drop, number-back, number-bytes, number-fits}
 use Rattle.field.proofs.SignedLaws.{bits-are, signed-bits, bits-signed}
 use Rattle.small_chunks.specs.Envelope.{pointOf, pointBytes}
 use Rattle.small_chunks.specs.Pan.{panOf, panBytes}
@@ -26,11 +26,7 @@ use Rattle.small_chunks.specs.declared.pan.Pan.{Pan}
 use Rattle.small_chunks.specs.declared.sequence.Fade.{Fade}
 use Rattle.small_chunks.specs.declared.sequence.SeqnSegment.{SeqnSegment}
 
--- ---- one number
-
--- what was written reads back, whatever follows it
-pub number-back : (n v : ℕ) (rest : List ℕ) → v < 256 ^ n → bigEndian n (bigEndianBytes n v ++ rest) ≡ v
-number-back n v rest h = number-append n (bigEndianBytes n v) rest (omega (arith, bytes-length n v)) ∙ bytes-number n v h
+-- ---- one signed number
 
 pub bits-fit : (z : ℤ) → SFits w32 z → bits32 z < 256 ^ 4
 bits-fit z f = rw (← bits-are w32 z) (fits-ofZ f .fits)
@@ -53,9 +49,6 @@ two-drop n v l rest = rw append-assoc (drop-at (bigEndianBytes n v) (l ++ rest) 
 
 pub two-first : (n v : ℕ) (l rest : List ℕ) → v < 256 ^ n → bigEndian n ((bigEndianBytes n v ++ l) ++ rest) ≡ v
 two-first n v l rest h = rw append-assoc (number-back n v (l ++ rest) h)
-
-pub bytes-drop : (n : ℕ) (l : List ℕ) → Bytes l → Bytes (drop n l)
-bytes-drop n l h i = rw getD-drop (h (n + i))
 
 pub two-again : (n k : ℕ) (l : List ℕ) → Bytes l → n + k ≤ length l → bigEndianBytes n (bigEndian n l) ++ bigEndianBytes k (bigEndian k (drop n l)) ≡ take (n + k) l
 two-again n k l h long =

@@ -1,13 +1,13 @@
 -- `volume::kept_digits` meets its contract: twice the remainder, against the unit, says which case of `closest` holds.
 -- Assumes nothing.
-use mathlib.Core.Path.{_≡_, sym, ap, _∙_}
+use mathlib.Core.Path.{_≡_, sym, _∙_}
 use Prim.Native.Nat.{ℕ, _*_, _/_, _%_, _^_, _<_, _≤_}
 use native.Mathlib.Nat.{mod-lt}
 use lib.Arith.{lt-of-le-ne}
 use native.Mathlib.Numerals.{add-one}
 use native.Mathlib.Omega.{arith}
 use borrow.Author.Needs.{needs}
-use Rattle.volume.specs.Volume.{lowestDigit, keptDigits}
+use Rattle.volume.specs.Volume.{lowestDigit}
 use Rattle.volume.proofs.VolumeLaws.{digit-pos, digit-le, quotient-lt, closest-below, closest-tie, closest-above, kept-is}
 use Rattle.volume.proofs.kept_digits.Statement.{statement}
 use Rattle.volume.proofs.kept_digits.Tie as tie

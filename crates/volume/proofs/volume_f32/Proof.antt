@@ -1,13 +1,11 @@
 -- `volume::volume_f32` meets its contract. Neither cast loses anything: both numbers are at most 2 ^ 24.
 -- Assumes nothing.
-use mathlib.Core.Path.{_≡_}
-use Prim.Native.Nat.{_/_, _^_, _≤_, _<_}
+use Prim.Native.Nat.{_/_, _^_, _≤_}
 use native.Mathlib.Nat.{div-le-self, le-trans}
-use native.Mathlib.Omega.{arith}
 use lib.Dec.{le→leb, lit≤}
 use lib.Ieee.{inFloat}
 use borrow.Author.Needs.{needs}
-use Rattle.volume.specs.Volume.{lowestDigit, keptDigits}
+use Rattle.volume.specs.Volume.{lowestDigit}
 use Rattle.volume.proofs.VolumeLaws.{digit-pos, kept-le, divided}
 use Rattle.volume.proofs.volume_f32.Statement.{statement}
 use Rattle.volume.proofs.volume_f32.Tie as tie

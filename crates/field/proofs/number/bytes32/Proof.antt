@@ -5,8 +5,6 @@ use borrow.Author.Needs.{needs}
 use Rattle.field.specs.BigEndian.{bigEndianBytes}
 use Rattle.field.proofs.number.bytes32.Statement.{statement}
 use Rattle.field.proofs.number.bytes32.Tie as tie
-use Rattle.field.proofs.number.bytes32.Reads as reads
-use Rattle.field.proofs.number.bytes32.Lts as lts
 
 cast-t4 : tie.Need-cast-t4
 cast-t4 c = search needs

@@ -6,9 +6,6 @@ use Rattle.laws.proofs.PutLaws.{put-then}
 use Rattle.field.specs.BigEndian.{bigEndianBytes}
 use Rattle.field.proofs.number.put32.Statement.{statement}
 use Rattle.field.proofs.number.put32.Tie as tie
-use Rattle.field.proofs.number.put32.Reads as reads
-use Rattle.field.proofs.number.put32.Lts as lts
-use Rattle.field.proofs.store.put_byte.Reads as put-byte-reads
 
 cast-put-byte : tie.Need-cast-put-byte
 cast-put-byte c = search needs

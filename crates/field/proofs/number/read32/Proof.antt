@@ -6,9 +6,6 @@ use native.Mathlib.Omega.{arith}
 use Rattle.field.proofs.BigEndianLaws.{number32-halves}
 use Rattle.field.proofs.number.read32.Statement.{statement}
 use Rattle.field.proofs.number.read32.Tie as tie
-use Rattle.field.proofs.number.read32.Reads as reads
-use Rattle.field.proofs.number.read32.Lts as lts
-use Rattle.field.proofs.number.read16.Reads as read16-reads
 
 read16-requires : tie.Need-read16-requires
 read16-requires c κs = search needs

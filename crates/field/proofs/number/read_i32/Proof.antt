@@ -6,10 +6,6 @@ use borrow.Author.Needs.{needs}
 use Rattle.laws.proofs.Signed.{back}
 use Rattle.field.proofs.number.read_i32.Statement.{statement}
 use Rattle.field.proofs.number.read_i32.Tie as tie
-use Rattle.field.proofs.number.read_i32.Reads as reads
-use Rattle.field.proofs.number.read_i32.Lts as lts
-use Rattle.field.proofs.number.read32.Reads as read32-reads
-use Rattle.field.proofs.signed.i32_of_bits.Reads as i32-of-bits-reads
 
 read32-requires : tie.Need-read32-requires
 read32-requires c κs = search needs

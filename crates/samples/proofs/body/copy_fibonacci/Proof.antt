@@ -1,7 +1,7 @@
 -- `samples::body::copy_fibonacci` meets its contract: `prev` is the next sample, where there is one.
 -- Assumes nothing.
 use mathlib.Core.Path.{_≡_, refl, sym, ap, _∙_}
-use mathlib.Core.List.{map, _++_}
+use mathlib.Core.List.{_++_}
 use Prim.Native.Nat.{_+_, _-_, _≤_, _<_}
 use native.Mathlib.Omega.{arith}
 use lib.IntN.{pos}
@@ -61,7 +61,7 @@ loop-again c =
       omega arith,
       simp length-set (l .inv .1),
       prefix-map byteOf (take (a .n) all) (a .out .now) (l .out) (l .i) (pos 0) _ within (omega arith) (l .inv .2)
-      (c .before .byte-of-sample .ensures ∙ ap byteOf (here ∙ sym (getD-take (a .n) all (l .i) (pos 0) (omega arith)))),
+          (c .before .byte-of-sample .ensures ∙ ap byteOf (here ∙ sym (getD-take (a .n) all (l .i) (pos 0) (omega arith)))),
       sample-after (a .body .now) _ _ (l .i) (l .inv .3) (back w8 (c .next-sample .ok) ∙ c .next-sample .ensures),
     )
 

@@ -4,7 +4,7 @@ use mathlib.Core.Path.{_≡_, sym, _∙_}
 use borrow.Author.Needs.{needs}
 use Rattle.refusal.proofs.OutcomeLaws.{outcome-refused}
 use Rattle.header.specs.Compression.{knownCompression}
-use Rattle.header.specs.declared.compression.KnownCompression.the-variants.{Known, Refused}
+use Rattle.header.specs.declared.compression.KnownCompression.the-variants.{Known}
 use Rattle.samples.specs.Body.{decodedBody}
 use Rattle.samples.proofs.BodyLaws.{decoded-unknown, decoded-two, decoded-one}
 use Rattle.samples.proofs.body.decode_body.Statement.{statement}

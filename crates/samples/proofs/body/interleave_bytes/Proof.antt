@@ -58,11 +58,11 @@ loop-again c =
       omega arith,
       simp length-set (l .inv .1),
       frame-stored ls rs (a .out .now) (l .out) (l .i) _ _
-      (rw (length-take-le (a .n) (a .left .now) (omega arith)) (omega arith))
-      (rw (length-take-le (a .n) (a .right .now) (omega arith)) (omega arith))
-      (omega arith) (l .inv .2)
-      (sym (getD-take (a .n) (a .left .now) (l .i) 0 (omega arith)))
-      (sym (getD-take (a .n) (a .right .now) (l .i) 0 (omega arith))),
+          (rw (length-take-le (a .n) (a .left .now) (omega arith)) (omega arith))
+          (rw (length-take-le (a .n) (a .right .now) (omega arith)) (omega arith))
+          (omega arith) (l .inv .2)
+          (sym (getD-take (a .n) (a .left .now) (l .i) 0 (omega arith)))
+          (sym (getD-take (a .n) (a .right .now) (l .i) 0 (omega arith))),
     )
 
 same-length : tie.Need-same-length Inv-loop μ-loop

@@ -1,7 +1,7 @@
 -- `samples::body::interleave_fibonacci` meets its contract: a and b are the next samples of the two sides, where there are any.
 -- Assumes nothing.
 use mathlib.Core.Path.{_≡_, refl, sym, ap, _∙_}
-use mathlib.Core.List.{map, _++_}
+use mathlib.Core.List.{_++_}
 use Prim.Native.Nat.{_+_, _-_, _≤_, _<_}
 use native.Mathlib.Omega.{arith}
 use lib.IntN.{pos}
@@ -97,11 +97,11 @@ loop-again c =
       omega arith,
       simp length-set (l .inv .1),
       frame-stored (frameBytes (a .n) ls) (frameBytes (a .n) rs) (a .out .now) (l .out) (l .i) _ _
-      (rw (frame-length (a .n) ls (omega arith)) (omega arith))
-      (rw (frame-length (a .n) rs (omega arith)) (omega arith))
-      (omega arith) (l .inv .2)
-      (e .before .byte-of-sample .ensures ∙ ap byteOf left-here ∙ sym (frame-at (a .n) ls (l .i) (omega arith) (omega arith)))
-      (e .byte-of-sample2 .ensures ∙ ap byteOf right-here ∙ sym (frame-at (a .n) rs (l .i) (omega arith) (omega arith))),
+          (rw (frame-length (a .n) ls (omega arith)) (omega arith))
+          (rw (frame-length (a .n) rs (omega arith)) (omega arith))
+          (omega arith) (l .inv .2)
+          (e .before .byte-of-sample .ensures ∙ ap byteOf left-here ∙ sym (frame-at (a .n) ls (l .i) (omega arith) (omega arith)))
+          (e .byte-of-sample2 .ensures ∙ ap byteOf right-here ∙ sym (frame-at (a .n) rs (l .i) (omega arith) (omega arith))),
       sample-after (a .left .now) _ _ (l .i) (l .inv .3) (back w8 (c .before .next-sample .ok) ∙ c .before .next-sample .ensures),
       sample-after (a .right .now) _ _ (l .i) (l .inv .4) (back w8 (c .next-sample2 .ok) ∙ c .next-sample2 .ensures),
     )

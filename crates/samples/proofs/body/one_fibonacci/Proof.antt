@@ -1,6 +1,6 @@
 -- `samples::body::one_fibonacci` meets its contract: a Fibonacci channel gives its samples, as many as the limit allows.
 -- Assumes nothing.
-use mathlib.Core.Path.{_≡_, sym, ap, _∙_}
+use mathlib.Core.Path.{_≡_, ap, _∙_}
 use mathlib.Core.List.{List}
 use Prim.Native.Nat.{ℕ, min}
 use native.Mathlib.Omega.{arith}

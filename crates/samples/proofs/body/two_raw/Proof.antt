@@ -1,10 +1,10 @@
 -- `samples::body::two_raw` meets its contract: raw halves give their own bytes by turns, as many as the limit allows.
 -- Assumes nothing.
-use mathlib.Core.Path.{_≡_, sym, ap, _∙_}
+use mathlib.Core.Path.{ap, _∙_}
 use mathlib.Core.List.{List}
-use Prim.Native.Nat.{ℕ, _+_, _/_}
+use Prim.Native.Nat.{ℕ, _+_}
 use native.Mathlib.Omega.{arith}
-use lib.ListN.{length, take}
+use lib.ListN.{take}
 use borrow.Author.Needs.{needs}
 use Rattle.laws.specs.Buffer.{written}
 use Rattle.refusal.proofs.OutcomeLaws.{outcome-fits, outcome-short}
