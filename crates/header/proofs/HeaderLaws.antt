@@ -11,22 +11,12 @@ use lib.ListN.{length, getD, take, drop, length-append, length-drop}
 use lib.Seq.{getD-drop, drop-drop, drop-at, take-add, drop-cons}
 use Rattle.field.specs.BigEndian.{bigEndian, bigEndianBytes}
 use Rattle.field.proofs.BigEndianLaws.{Bytes, bytes-length, bytes-drop, number-back, number-bytes, number-fits}
-use Rattle.header.specs.Header.{headerOf, headerBytes}
+use Rattle.header.specs.Header.{headerOf, headerBytes, Fitting}
 use Rattle.header.specs.declared.«voice_header».VoiceHeader.{VoiceHeader}
 
 pub header-length : (h : VoiceHeader) → length (headerBytes h) ≡ 20
 unfolding headerBytes
 header-length h = simp (length-append, bytes-length)
-
--- each field fits its width
-pub record Fitting (h : VoiceHeader) : Type 0 where
-  pub one-shot : h .«one_shot_hi_samples» < 2 ^ 32
-  pub repeat : h .«repeat_hi_samples» < 2 ^ 32
-  pub cycle : h .«samples_per_hi_cycle» < 2 ^ 32
-  pub rate : h .«samples_per_sec» < 2 ^ 16
-  pub octave-count : h .«ct_octave» < 2 ^ 8
-  pub compression : h .«compression_byte» < 2 ^ 8
-  pub volume : h .volume < 2 ^ 32
 
 -- ---- written, then read
 

@@ -1,5 +1,5 @@
 -- VHDR: seven fields in 20 bytes, big-endian.
-use Prim.Native.Nat.{ℕ}
+use Prim.Native.Nat.{ℕ, _^_, _<_}
 use mathlib.Core.Bool.{cond}
 use mathlib.Core.List.{List, [], _∷_, _++_}
 use lib.Dec.{ltb}
@@ -32,3 +32,13 @@ headerBytes h =
 -- a chunk under 20 bytes is refused by 6; what lies past them is ignored
 abbrev pub parsedHeader : List ℕ → ParsedHeader
 parsedHeader l = cond (ltb (length l) 20) (Refused chunkLength) (Parsed (headerOf l))
+
+-- each field fits its width
+pub record Fitting (h : VoiceHeader) : Type 0 where
+  pub one-shot : h .«one_shot_hi_samples» < 2 ^ 32
+  pub repeat : h .«repeat_hi_samples» < 2 ^ 32
+  pub cycle : h .«samples_per_hi_cycle» < 2 ^ 32
+  pub rate : h .«samples_per_sec» < 2 ^ 16
+  pub octave-count : h .«ct_octave» < 2 ^ 8
+  pub compression : h .«compression_byte» < 2 ^ 8
+  pub volume : h .volume < 2 ^ 32

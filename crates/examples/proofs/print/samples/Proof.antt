@@ -1,0 +1,52 @@
+-- `examples::print::samples` is safe and ends.
+-- Assumes nothing.
+use Prim.Native.Nat.{_≤_, _-_}
+use borrow.Author.Needs.{needs}
+use lib.ListN.{length}
+use Rattle.examples.proofs.print.samples.Statement.{statement}
+use Rattle.examples.proofs.print.samples.Tie as tie
+
+abbrev Inv-loop : tie.InvT-loop
+Inv-loop s i₀ i = i ≤ length s
+
+abbrev μ-loop : tie.MeasureT-loop
+μ-loop s i₀ i = length s - i
+
+loop-holds : tie.Need-loop-holds Inv-loop μ-loop
+loop-holds c = search needs
+
+space-requires : tie.Need-space-requires Inv-loop μ-loop
+space-requires c κs = search needs
+
+shared-slice-copy-out-sample : tie.Need-shared-slice-copy-out-sample Inv-loop μ-loop
+shared-slice-copy-out-sample c = search needs
+
+sample-requires : tie.Need-sample-requires Inv-loop μ-loop
+sample-requires c κs = search needs
+
+add-i : tie.Need-add-i Inv-loop μ-loop
+add-i c = search needs
+
+loop-less : tie.Need-loop-less Inv-loop μ-loop
+loop-less c = search needs
+
+loop-again : tie.Need-loop-again Inv-loop μ-loop
+loop-again c = search needs
+
+returns : tie.Need-returns Inv-loop μ-loop
+returns c = search needs
+
+pub samples-spec : {M : Type 1} → statement M
+samples-spec =
+    tie.close
+    (tie.spec
+    Inv-loop
+    μ-loop
+    loop-holds
+    space-requires
+    shared-slice-copy-out-sample
+    sample-requires
+    add-i
+    loop-less
+    loop-again
+    returns)
