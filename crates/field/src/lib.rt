@@ -18,4 +18,5 @@ pub use signed::i32_of_bits;
 pub use signed::sample_of_byte;
 pub use store::put_all;
 pub use store::put_byte;
+pub use store::put_record;
 pub use store::put_tagged;

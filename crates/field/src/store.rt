@@ -32,8 +32,8 @@ pub fn put_all(src: &[u8], d: &mut [u8], at: usize) -> usize
     o
 }
 
-// A tag, then all of `src`; the place past it.
-fn put_part(src: &[u8], tag: u8, d: &mut [u8], at: usize) -> usize
+// A tag, then all of `src`: a record of a kind; the place past it.
+pub fn put_record(src: &[u8], tag: u8, d: &mut [u8], at: usize) -> usize
     requires { ⌜ at + suc (length (now src)) < 2 ^ 63 ⌝ }
     ensures { λ r. ⌜ Put (now (d .entry)) at (tag ∷ now (src .entry)) (now (d .exit)) r ⌝ }
 {
@@ -50,7 +50,7 @@ pub fn put_tagged(src: &[u8], tag: u8, n: usize, d: &mut [u8], at: usize) -> usi
     let mut o = at;
     while n <= src.len() - i {
         let e = i + n;
-        o = put_part(&src[i..e], tag, d, o);
+        o = put_record(&src[i..e], tag, d, o);
         i = e;
     }
     o

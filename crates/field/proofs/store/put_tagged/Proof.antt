@@ -26,14 +26,14 @@ sub-loop c = omega arith
 add-e : tie.Need-add-e Inv-loop μ-loop
 add-e c = omega arith
 
-sub-put-part : tie.Need-sub-put-part Inv-loop μ-loop
-sub-put-part c = omega arith
+sub-put-record : tie.Need-sub-put-record Inv-loop μ-loop
+sub-put-record c = omega arith
 
-part-put-part-start : tie.Need-part-put-part-start Inv-loop μ-loop
-part-put-part-start c = omega arith
+part-put-record-start : tie.Need-part-put-record-start Inv-loop μ-loop
+part-put-record-start c = omega arith
 
-part-put-part-end : tie.Need-part-put-part-end Inv-loop μ-loop
-part-put-part-end c = omega arith
+part-put-record-end : tie.Need-part-put-record-end Inv-loop μ-loop
+part-put-record-end c = omega arith
 
 -- the part of a turn
 abbrev part : (c : tie.In-loop Inv-loop μ-loop) → List ℕ
@@ -44,8 +44,8 @@ turn : (c : tie.In-loop Inv-loop μ-loop) →
     tagged (a .tag) (a .n) (drop i (now (a .src))) ≡ part c ++ tagged (a .tag) (a .n) (drop (i + a .n) (now (a .src)))
 turn c = tagged-at _ _ (c .before .before .before .before .pre .0) _ _ (c .loop-test .taken)
 
-put-part-requires : tie.Need-put-part-requires Inv-loop μ-loop
-put-part-requires c κs = omega (arith, underway-room (part (c .before .before)) _ (c .before .before .before .loop .inv .0) (turn (c .before .before)))
+put-record-requires : tie.Need-put-record-requires Inv-loop μ-loop
+put-record-requires c κs = omega (arith, underway-room (part (c .before .before)) _ (c .before .before .before .loop .inv .0) (turn (c .before .before)))
 
 loop-less : tie.Need-loop-less Inv-loop μ-loop
 loop-less c = omega arith
@@ -53,7 +53,7 @@ loop-less c = omega arith
 loop-again : tie.Need-loop-again Inv-loop μ-loop
 loop-again c =
     let inv = c .before .before .before .before .before .before .loop .inv in
-    (underway-step _ (inv .0) (turn (c .before .before .before .before .before)) (c .before .before .put-part .ensures), c .before .before .put-part .kept .1 .1 .0 ∙ inv .1, omega arith)
+    (underway-step _ (inv .0) (turn (c .before .before .before .before .before)) (c .before .before .put-record .ensures), c .before .before .put-record .kept .1 .1 .0 ∙ inv .1, omega arith)
 
 same-length : tie.Need-same-length Inv-loop μ-loop
 same-length c = c .before .loop .inv .1
@@ -70,10 +70,10 @@ put-tagged-spec =
     loop-holds
     sub-loop
     add-e
-    sub-put-part
-    part-put-part-start
-    part-put-part-end
-    put-part-requires
+    sub-put-record
+    part-put-record-start
+    part-put-record-end
+    put-record-requires
     loop-less
     loop-again
     same-length
