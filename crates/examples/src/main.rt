@@ -1,9 +1,13 @@
-// Runs the worked examples of the format's specification that belong to headers and samples, and prints what they give.
+// Runs worked examples of the format's specification and prints what they give.
 mod codec;
 mod headers;
 mod print;
+mod sheets;
+mod texts;
 
 fn main() {
     codec::run();
     headers::run();
+    sheets::run();
+    texts::run();
 }
