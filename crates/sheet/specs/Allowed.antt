@@ -24,17 +24,21 @@ abbrev pub IfThere : {A : Type 0} → (A → Type 0) → Option A → Type 0
 IfThere P none = Unit
 IfThere P (some a) = P a
 
+-- a position of 32 bits, signed
 pub record PanFits (p : Pan) : Type 0 where
   pub position : SFits w32 (p .position)
 
+-- milliseconds of 16 bits, and a level of 32, signed
 pub record PointFits (p : EgPoint) : Type 0 where
   pub duration : p .«duration_ms» < 2 ^ 16
   pub dest : SFits w32 (p .dest)
 
+-- offsets of 32 bits
 pub record SegmentFits (s : SeqnSegment) : Type 0 where
   pub start : s .start < 2 ^ 32
   pub end : s .end < 2 ^ 32
 
+-- a number of 32 bits
 pub record FadeFits (f : Fade) : Type 0 where
   pub segment : f .segment < 2 ^ 32
 
@@ -45,6 +49,7 @@ pub record TextAllowed (t : Text) : Type 0 where
   pub well-formed : wellFormed (t .bytes) ≡ true
   pub bytes : All (λ b. b < 256) (t .bytes)
 
+-- all of that, of a voice; a channel is one of three by its type
 pub record Allowed (v : Voice) : Type 0 where
   pub header : Fitting (v .header)
   pub pan : IfThere PanFits (v .pan)

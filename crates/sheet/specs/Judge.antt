@@ -23,5 +23,6 @@ judgedItems items =
     (cond (textsWellFormed (groups 10 11 items)) Sound (Refused textIllFormed))
     (Refused (firstWrong 0 items))
 
+-- the verdict on a sheet
 abbrev pub judged : List ℕ → Judged
 judged sheet = judgedItems (records sheet)

@@ -14,6 +14,7 @@ use Rattle.sheet.specs.Record.{Item, entry, bad}
 abbrev pub earliest : List ℕ
 earliest = 0 ∷ 0 ∷ 1 ∷ 1 ∷ 1 ∷ 1 ∷ 4 ∷ 1 ∷ 7 ∷ 1 ∷ 1 ∷ 10 ∷ []
 
+-- the last group in hand, by the same order
 abbrev pub latest : List ℕ
 latest = 0 ∷ 0 ∷ 1 ∷ 2 ∷ 4 ∷ 5 ∷ 5 ∷ 5 ∷ 7 ∷ 7 ∷ 10 ∷ 10 ∷ []
 

@@ -54,6 +54,7 @@ abbrev pub knownChannel : ParsedChannel → Option ChannelAssignment
 knownChannel (Parsed c) = some c
 knownChannel (Refused number) = none
 
+-- the assignment of a channel record, where there is one
 abbrev pub channelIn : Option (List ℕ) → Option ChannelAssignment
 channelIn none = none
 channelIn (some body) = knownChannel (channelOf (getD body 0 0))

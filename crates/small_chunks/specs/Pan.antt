@@ -18,6 +18,7 @@ use Rattle.small_chunks.specs.declared.pan.ParsedPan.the-variants.{Parse
 unfoldable pub panOf : List ℕ → Pan
 panOf l = record { position = signed32 (bigEndian 4 l) }
 
+-- its four bytes
 unfoldable pub panBytes : Pan → List ℕ
 panBytes p = bigEndianBytes 4 (bits32 (p .position))
 

@@ -37,6 +37,7 @@ segmentVerdict s hi = cond (segmentValid s hi) validity.Valid (validity.Refused 
 unfoldable pub fadeOf : List ℕ → Fade
 fadeOf l = record { segment = bigEndian 4 l }
 
+-- its four bytes
 unfoldable pub fadeBytes : Fade → List ℕ
 fadeBytes f = bigEndianBytes 4 (f .segment)
 
