@@ -1,0 +1,92 @@
+-- The members of flat envelopes are their points, joined; those of a flat sequence are its segments.
+-- Assumes nothing.
+use mathlib.Core.Path.{_≡_, refl, sym, ap, _∙_}
+use mathlib.Core.Bool.{true, false}
+use mathlib.Core.List.{List, [], _∷_, _++_, map, append-assoc, append-nil, map-append}
+use Prim.Native.Nat.{ℕ, suc, _<_}
+use native.Mathlib.Omega.{arith}
+use borrow.Author.Tests.{ne-eqb, eq-eqb}
+use lib.Dec.{eqb}
+use lib.ListN.{length, take, drop}
+use lib.Seq.{take-at, drop-at}
+use Rattle.laws.specs.Walk.{Front, more, last, each, walk}
+use Rattle.laws.proofs.WalkLaws.{walk-more, walk-last}
+use Rattle.small_chunks.specs.Envelope.{pointOf, pointBytes}
+use Rattle.small_chunks.specs.Sequence.{segmentOf, segmentBytes}
+use Rattle.small_chunks.specs.declared.envelope.EgPoint.{EgPoint}
+use Rattle.small_chunks.specs.declared.sequence.SeqnSegment.{SeqnSegment}
+use Rattle.small_chunks.proofs.FieldLaws.{point-length, point-back, segment-length, segment-back}
+use Rattle.sheet.specs.Flat.{flatPoint, flatEnvelope, flatSegment, flatSequence}
+use Rattle.sheet.specs.Allowed.{All, PointFits, SegmentFits}
+use Rattle.layout.specs.Members.{joined, firstMember, membersIn, pointsIn, segmentsIn}
+
+module _ (member n : ℕ) where
+  none-left : membersIn member n [] ≡ []
+  unfolding membersIn
+  none-left = ap joined (walk-last (firstMember member n) refl [] [] refl)
+
+  -- a byte that opens a group
+  opener-passed : (kind : ℕ) (l : List ℕ) → (kind ≡ member → ⊥) → membersIn member n (kind ∷ l) ≡ membersIn member n l
+  unfolding membersIn
+  opener-passed kind l other = ap joined (walk-more (firstMember member n) refl (kind ∷ l) [] 0 (rw (ne-eqb kind member other)))
+
+  -- a member
+  member-read : (body rest : List ℕ) → length body ≡ n → membersIn member n (member ∷ (body ++ rest)) ≡ body ∷ membersIn member n rest
+  unfolding membersIn
+  member-read body rest e =
+      let first : firstMember member n (member ∷ (body ++ rest)) ≡ more (body ∷ []) n = rw (eq-eqb member member refl, take-at body rest n e) in
+      let past : walk (firstMember member n) 0 (drop n (body ++ rest)) ≡ walk (firstMember member n) 0 rest = ap (walk (firstMember member n) 0) (drop-at body rest n e) in
+      ap joined (walk-more (firstMember member n) refl (member ∷ (body ++ rest)) (body ∷ []) n first ∙ ap (λ (l : List (List (List ℕ))). (body ∷ []) ∷ l) past)
+
+  module _ {A : Type 0} (f : A → List ℕ) (size : (a : A) → length (f a) ≡ n) where
+    members-read : (as′ : List A) (rest : List ℕ) → membersIn member n (each (λ a. member ∷ f a) as′ ++ rest) ≡ map f as′ ++ membersIn member n rest
+    members-read [] rest = refl
+    members-read (a ∷ as′) rest =
+        rw (append-assoc (f a) (each (λ x. member ∷ f x) as′) rest)
+        (member-read (f a) (each (λ x. member ∷ f x) as′ ++ rest) (size a) ∙ ap (λ (l : List (List ℕ)). f a ∷ l) (members-read as′ rest))
+
+-- what was written reads back, element by element
+map-same : {A : Type 0} (P : A → Type 0) (f : A → List ℕ) (g : List ℕ → A) → ((a : A) → P a → g (f a) ≡ a) → (l : List A) → All P l → map g (map f l) ≡ l
+map-same P f g back [] h = refl
+map-same P f g back (a ∷ l) h = rw (back a (h .0), map-same P f g back l (h .1))
+
+all-joined : {A : Type 0} (P : A → Type 0) (a b : List A) → All P a → All P b → All P (a ++ b)
+all-joined P [] b h k = k
+all-joined P (x ∷ a) b h k = (h .0, all-joined P a b (h .1) k)
+
+-- ---- envelopes
+
+envelope-members : (kind : ℕ) (es : List (List EgPoint)) → (kind ≡ 6 → ⊥) → membersIn 6 6 (each (flatEnvelope kind) es) ≡ map pointBytes (joined es)
+envelope-members kind [] other = none-left 6 6
+envelope-members kind (e ∷ es) other =
+    opener-passed 6 6 kind (each flatPoint e ++ each (flatEnvelope kind) es) other
+    ∙ members-read 6 6 pointBytes point-length e (each (flatEnvelope kind) es)
+    ∙ rw (envelope-members kind es other) (sym (map-append pointBytes e (joined es)))
+
+point-again : (p : EgPoint) → PointFits p → pointOf (pointBytes p) ≡ p
+point-again p f = ap pointOf (sym (append-nil (pointBytes p))) ∙ point-back p [] (f .duration) (f .dest)
+
+all-points : (es : List (List EgPoint)) → All (All PointFits) es → All PointFits (joined es)
+all-points [] h = tt
+all-points (e ∷ es) h = all-joined PointFits e (joined es) (h .0) (all-points es (h .1))
+
+pub envelope-points : (kind : ℕ) (es : List (List EgPoint)) → (kind ≡ 6 → ⊥) → All (All PointFits) es → pointsIn (each (flatEnvelope kind) es) ≡ joined es
+envelope-points kind es other h = ap (map pointOf) (envelope-members kind es other) ∙ map-same PointFits pointBytes pointOf point-again (joined es) (all-points es h)
+
+-- ---- the sequence
+
+segment-again : (s : SeqnSegment) → SegmentFits s → segmentOf (segmentBytes s) ≡ s
+segment-again s f = ap segmentOf (sym (append-nil (segmentBytes s))) ∙ segment-back s [] (f .start) (f .end)
+
+pub sequence-segments : (segments : List SeqnSegment) → All SegmentFits segments → segmentsIn (flatSequence segments) ≡ segments
+sequence-segments segments h =
+    let read : membersIn 8 8 (flatSequence segments) ≡ map segmentBytes segments =
+    opener-passed 8 8 7 (each flatSegment segments) not-8
+    ∙ ap (membersIn 8 8) (sym (append-nil (each flatSegment segments)))
+    ∙ members-read 8 8 segmentBytes segment-length segments []
+    ∙ ap (λ (l : List (List ℕ)). map segmentBytes segments ++ l) (none-left 8 8)
+    ∙ append-nil (map segmentBytes segments) in
+    ap (map segmentOf) read ∙ map-same SegmentFits segmentBytes segmentOf segment-again segments h
+  where
+    not-8 : _≡_ {A = ℕ} 7 8 → ⊥
+    not-8 e = omega (arith, e)
