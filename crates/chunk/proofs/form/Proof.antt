@@ -1,0 +1,27 @@
+-- `chunk::form` meets its contract: the walk ends within the file.
+-- Assumes nothing.
+use Prim.Native.Nat.{ℕ}
+use borrow.Author.Needs.{needs}
+use denote.Ref.{now}
+use lib.ListN.{length, take}
+use lib.Seq.{length-take-le}
+use mathlib.Core.Path.{_≡_, sym, ap}
+use native.Mathlib.Omega.{arith}
+use Rattle.chunk.proofs.form.Statement.{statement}
+use Rattle.chunk.proofs.form.Tie as tie
+use Rattle.chunk.proofs.ChunkLaws.{end-le}
+
+walk-end-requires : tie.Need-walk-end-requires
+walk-end-requires c κs = search needs
+
+long : (c : tie.After-result) → c .before .walk-end .result ≡ length (take (c .before .walk-end .result) (now (c .before .before .before .args .file)))
+long c = let f = now (c .before .before .before .args .file) in sym (length-take-le (c .before .walk-end .result) f (omega (arith, end-le f)))
+
+slice-aggregate-result : tie.Need-slice-aggregate-result
+slice-aggregate-result c = long c
+
+returns : tie.Need-returns
+returns c = (ap (λ (n : ℕ). take n (now (c .before .before .before .args .file))) (c .before .walk-end .ensures .0), omega (arith, long c))
+
+pub form-spec : {M : Type 1} → statement M
+form-spec = tie.close (tie.spec walk-end-requires slice-aggregate-result returns)

@@ -1,0 +1,2 @@
+-- The meaning of the chunk walk.
+pub mod Chunk
