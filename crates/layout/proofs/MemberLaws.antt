@@ -1,15 +1,13 @@
 -- The members of flat envelopes are their points, joined; those of a flat sequence are its segments.
 -- Assumes nothing.
 use mathlib.Core.Path.{_≡_, refl, sym, ap, _∙_}
-use mathlib.Core.Bool.{true, false}
 use mathlib.Core.List.{List, [], _∷_, _++_, map, append-assoc, append-nil, map-append}
-use Prim.Native.Nat.{ℕ, suc, _<_}
+use Prim.Native.Nat.{ℕ}
 use native.Mathlib.Omega.{arith}
 use borrow.Author.Tests.{ne-eqb, eq-eqb}
-use lib.Dec.{eqb}
-use lib.ListN.{length, take, drop}
+use lib.ListN.{length, drop}
 use lib.Seq.{take-at, drop-at}
-use Rattle.laws.specs.Walk.{Front, more, last, each, walk}
+use Rattle.laws.specs.Walk.{more, each, walk}
 use Rattle.laws.proofs.WalkLaws.{walk-more, walk-last}
 use Rattle.small_chunks.specs.Envelope.{pointOf, pointBytes}
 use Rattle.small_chunks.specs.Sequence.{segmentOf, segmentBytes}
@@ -18,6 +16,7 @@ use Rattle.small_chunks.specs.declared.sequence.SeqnSegment.{SeqnSegment}
 use Rattle.small_chunks.proofs.FieldLaws.{point-length, point-back, segment-length, segment-back}
 use Rattle.sheet.specs.Flat.{flatPoint, flatEnvelope, flatSegment, flatSequence}
 use Rattle.sheet.specs.Allowed.{All, PointFits, SegmentFits}
+use Rattle.grammar.proofs.ListLaws.{all-append, map-back}
 use Rattle.layout.specs.Members.{joined, firstMember, membersIn, pointsIn, segmentsIn}
 
 module _ (member n : ℕ) where
@@ -45,15 +44,6 @@ module _ (member n : ℕ) where
         rw (append-assoc (f a) (each (λ x. member ∷ f x) as′) rest)
         (member-read (f a) (each (λ x. member ∷ f x) as′ ++ rest) (size a) ∙ ap (λ (l : List (List ℕ)). f a ∷ l) (members-read as′ rest))
 
--- what was written reads back, element by element
-map-same : {A : Type 0} (P : A → Type 0) (f : A → List ℕ) (g : List ℕ → A) → ((a : A) → P a → g (f a) ≡ a) → (l : List A) → All P l → map g (map f l) ≡ l
-map-same P f g back [] h = refl
-map-same P f g back (a ∷ l) h = rw (back a (h .0), map-same P f g back l (h .1))
-
-all-joined : {A : Type 0} (P : A → Type 0) (a b : List A) → All P a → All P b → All P (a ++ b)
-all-joined P [] b h k = k
-all-joined P (x ∷ a) b h k = (h .0, all-joined P a b (h .1) k)
-
 -- ---- envelopes
 
 envelope-members : (kind : ℕ) (es : List (List EgPoint)) → (kind ≡ 6 → ⊥) → membersIn 6 6 (each (flatEnvelope kind) es) ≡ map pointBytes (joined es)
@@ -63,20 +53,20 @@ envelope-members kind (e ∷ es) other =
     ∙ members-read 6 6 pointBytes point-length e (each (flatEnvelope kind) es)
     ∙ rw (envelope-members kind es other) (sym (map-append pointBytes e (joined es)))
 
-point-again : (p : EgPoint) → PointFits p → pointOf (pointBytes p) ≡ p
-point-again p f = ap pointOf (sym (append-nil (pointBytes p))) ∙ point-back p [] (f .duration) (f .dest)
+point-same : (p : EgPoint) → PointFits p → pointOf (pointBytes p) ≡ p
+point-same p f = ap pointOf (sym (append-nil (pointBytes p))) ∙ point-back p [] (f .duration) (f .dest)
 
 all-points : (es : List (List EgPoint)) → All (All PointFits) es → All PointFits (joined es)
 all-points [] h = tt
-all-points (e ∷ es) h = all-joined PointFits e (joined es) (h .0) (all-points es (h .1))
+all-points (e ∷ es) h = all-append PointFits e (joined es) (h .0) (all-points es (h .1))
 
 pub envelope-points : (kind : ℕ) (es : List (List EgPoint)) → (kind ≡ 6 → ⊥) → All (All PointFits) es → pointsIn (each (flatEnvelope kind) es) ≡ joined es
-envelope-points kind es other h = ap (map pointOf) (envelope-members kind es other) ∙ map-same PointFits pointBytes pointOf point-again (joined es) (all-points es h)
+envelope-points kind es other h = ap (map pointOf) (envelope-members kind es other) ∙ map-back pointBytes pointOf point-same (joined es) (all-points es h)
 
 -- ---- the sequence
 
-segment-again : (s : SeqnSegment) → SegmentFits s → segmentOf (segmentBytes s) ≡ s
-segment-again s f = ap segmentOf (sym (append-nil (segmentBytes s))) ∙ segment-back s [] (f .start) (f .end)
+segment-same : (s : SeqnSegment) → SegmentFits s → segmentOf (segmentBytes s) ≡ s
+segment-same s f = ap segmentOf (sym (append-nil (segmentBytes s))) ∙ segment-back s [] (f .start) (f .end)
 
 pub sequence-segments : (segments : List SeqnSegment) → All SegmentFits segments → segmentsIn (flatSequence segments) ≡ segments
 sequence-segments segments h =
@@ -86,7 +76,7 @@ sequence-segments segments h =
     ∙ members-read 8 8 segmentBytes segment-length segments []
     ∙ ap (λ (l : List (List ℕ)). map segmentBytes segments ++ l) (none-left 8 8)
     ∙ append-nil (map segmentBytes segments) in
-    ap (map segmentOf) read ∙ map-same SegmentFits segmentBytes segmentOf segment-again segments h
+    ap (map segmentOf) read ∙ map-back segmentBytes segmentOf segment-same segments h
   where
     not-8 : _≡_ {A = ℕ} 7 8 → ⊥
     not-8 e = omega (arith, e)
