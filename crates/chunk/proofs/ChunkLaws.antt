@@ -1,5 +1,6 @@
 -- The laws of the walk: the answers of `chunk_at` from its tests, and what an answer says of the items.
 -- Assumes nothing.
+use Rattle.laws.proofs.Cases.{impossible}
 use Rattle.refusal.specs.Numbers.{chunkPastForm}
 use Prim.Native.Nat.{ℕ, suc, _+_, _-_, _%_, _*_, _≤_, _<_, min, zero-le}
 use borrow.Author.Tests.{lt-ltb, le-ltb, ltb-false}
@@ -14,7 +15,7 @@ use native.Mathlib.Omega.{arith}
 use Rattle.chunk.specs.declared.ChunkStep.the-variants.{Chunk, Refused, End}
 use Rattle.field.specs.BigEndian.{bigEndian}
 use Rattle.chunk.specs.Chunk.{Head, headOf, Item, firstItem, itemsOf, itemsFrom, endOf, placed, stepAt, whole, refused, none, chunk, bad}
-use Rattle.laws.specs.Walk.{more, last, walk, each}
+use Rattle.laws.specs.Walk.{more, last, each}
 use Rattle.laws.proofs.WalkLaws.{walk-more, walk-last, walk-bound}
 
 -- ---- the walk's end
@@ -55,9 +56,6 @@ pub record Whole (f : List ℕ) (at id start n next : ℕ) : Type 0 where
   pub on : at < next
   pub begun : at < length f
 
-pub absurd-if : {A : Type 0} → _≡_ {A = ℕ} 0 1 → A
-absurd-if z = absurd (omega arith)
-
 pub nil-first : firstItem (headOf []) [] ≡ last []
 unfolding headOf
 nil-first = refl
@@ -68,8 +66,8 @@ head-fits l id n = go (ltb (length l) 8) (ltb (length l - 8) (bigEndian 4 (drop 
   where
     go : (a b : Bool) → ltb (length l) 8 ≡ a → ltb (length l - 8) (bigEndian 4 (drop 4 l)) ≡ b
         → cond a none (cond b (refused chunkPastForm) (whole (bigEndian 4 l) (bigEndian 4 (drop 4 l)))) ≡ whole id n → 8 + n ≤ length l
-    go true b p q e = absurd-if cc
-    go false true p q e = absurd-if cc
+    go true b p q e = impossible cc
+    go false true p q e = impossible cc
     go false false p q e =
         let m : bigEndian 4 (drop 4 l) ≡ n = cc in
         omega (arith, ltb-false (length l) 8 p, ltb-false (length l - 8) (bigEndian 4 (drop 4 l)) q)
@@ -80,8 +78,8 @@ module _ (f : List ℕ) (at : ℕ) where
   at-end = go (headOf (drop at f)) refl
     where
       go : (h : Head) → headOf (drop at f) ≡ h → placed at h ≡ End → itemsOf (drop at f) ≡ []
-      go (whole id n) p e = absurd-if cc
-      go (refused q) p e = absurd-if cc
+      go (whole id n) p e = impossible cc
+      go (refused q) p e = impossible cc
       go none p e = walk-last _ nil-first (drop at f) [] (rw p)
 
   pub at-refused : (r : ℕ) → stepAt f at ≡ Refused r → itemsFrom f at ≡ bad r ∷ []
@@ -89,9 +87,9 @@ module _ (f : List ℕ) (at : ℕ) where
   at-refused r = go (headOf (drop at f)) refl
     where
       go : (h : Head) → headOf (drop at f) ≡ h → placed at h ≡ Refused r → itemsOf (drop at f) ≡ bad r ∷ []
-      go (whole id n) p e = absurd-if cc
+      go (whole id n) p e = impossible cc
       go (refused q) p e = let eq : q ≡ r = cc in rw (← eq) (walk-last _ nil-first (drop at f) (bad q ∷ []) (rw p))
-      go none p e = absurd-if cc
+      go none p e = impossible cc
 
   pub at-chunk : (id start n next : ℕ) → stepAt f at ≡ Chunk id start n next → Whole f at id start n next
   unfolding stepAt itemsFrom itemsOf
@@ -110,8 +108,8 @@ module _ (f : List ℕ) (at : ℕ) where
           drop-drop (suc (7 + m + m % 2)) at f ∙ ap (λ (k : ℕ). drop k f) past-it in
           let read = walk-more (λ l. firstItem (headOf l) l) nil-first (drop at f) (chunk i (take m (drop 8 (drop at f)))) (7 + m + m % 2) (rw p) in
           record { items = cc (read, body, rest, ei, em); inside = omega arith; on = omega arith; begun = omega arith }
-      go (refused q) p e = absurd-if cc
-      go none p e = absurd-if cc
+      go (refused q) p e = impossible cc
+      go none p e = impossible cc
 
 -- where no chunk becomes more than c times its bytes, the form becomes no more than c times its bytes
 pub items-bound : (g : Item → List ℕ) (c : ℕ) → ((id : ℕ) (b : List ℕ) → length (g (chunk id b)) ≤ c * (8 + length b)) → ((r : ℕ) → g (bad r) ≡ [])
@@ -130,13 +128,13 @@ items-bound g c one bads f at =
             let short : length (take m (drop 8 l)) ≤ m = rw length-take (omega arith) in
             let fits = head-fits l i m p in
             rw (← ea) (le-trans (one i (take m (drop 8 l))) (mul-le-mul-left c (omega arith)))
-        go (refused q) p e = absurd-if cc
-        go none p e = absurd-if cc
+        go (refused q) p e = impossible cc
+        go none p e = impossible cc
 
     end-item : (l : List ℕ) (xs : List Item) → firstItem (headOf l) l ≡ last xs → length (each g xs) ≤ c * length l
     end-item l xs = go (headOf l)
       where
         go : (h : Head) → firstItem h l ≡ last xs → length (each g xs) ≤ c * length l
-        go (whole i m) e = absurd-if cc
+        go (whole i m) e = impossible cc
         go (refused q) e = let ex : bad q ∷ [] ≡ xs = cc in rw (← ex, bads q) zero-le
         go none e = let ex : [] ≡ xs = cc in rw (← ex) zero-le

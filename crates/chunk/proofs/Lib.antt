@@ -2,3 +2,4 @@
 pub mod ChunkLaws
 pub mod RunLaws
 pub mod StopLaws
+pub mod WriteLaws

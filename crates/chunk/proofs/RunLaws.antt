@@ -1,8 +1,9 @@
 -- Chunks put together: a run of complete, padded chunks before other bytes is its items before theirs.
 -- Assumes nothing.
+use Rattle.laws.proofs.Cases.{impossible}
 use Rattle.refusal.specs.Numbers.{chunkPastForm}
-use Prim.Native.Nat.{ℕ, zero, suc, _+_, _-_, _%_, _≤_, _<_}
-use mathlib.Core.Path.{_≡_, refl, ap, sym, _∙_}
+use Prim.Native.Nat.{ℕ, suc, _+_, _-_, _%_, _≤_}
+use mathlib.Core.Path.{_≡_, refl, ap, _∙_}
 use mathlib.Core.Bool.{Bool, true, false, cond}
 use mathlib.Core.List.{List, [], _∷_, _++_, append-assoc}
 use lib.ListN.{length, take, drop, length-append, length-drop}
@@ -12,9 +13,9 @@ use borrow.Author.Tests.{le-ltb, ltb-false}
 use native.Mathlib.Omega.{arith}
 use Rattle.field.proofs.BigEndianLaws.{number-append}
 use Rattle.field.specs.BigEndian.{bigEndian}
-use Rattle.chunk.proofs.ChunkLaws.{absurd-if, nil-first}
-use Rattle.chunk.specs.Chunk.{Head, whole, refused, none, headOf, Item, chunk, firstItem, itemsOf}
-use Rattle.laws.specs.Walk.{Front, more, last, walk}
+use Rattle.chunk.proofs.ChunkLaws.{nil-first}
+use Rattle.chunk.specs.Chunk.{whole, refused, none, headOf, Item, chunk, firstItem, itemsOf}
+use Rattle.laws.specs.Walk.{walk}
 use Rattle.laws.proofs.WalkLaws.{walk-more}
 
 -- c is a complete chunk with its pad
@@ -39,8 +40,8 @@ says c id n = go (ltb (length c) 8) (ltb (length c - 8) (bigEndian 4 (drop 4 c))
   where
     go : (a b : Bool) → ltb (length c) 8 ≡ a → ltb (length c - 8) (bigEndian 4 (drop 4 c)) ≡ b
         → cond a none (cond b (refused chunkPastForm) (whole (bigEndian 4 c) (bigEndian 4 (drop 4 c)))) ≡ whole id n → Says c id n
-    go true b p q e = absurd-if cc
-    go false true p q e = absurd-if cc
+    go true b p q e = impossible cc
+    go false true p q e = impossible cc
     go false false p q e =
         let m : bigEndian 4 (drop 4 c) ≡ n = cc in
         record { name = cc; size = m; fits = omega (arith, ltb-false (length c) 8 p, ltb-false (length c - 8) (bigEndian 4 (drop 4 c)) q) }

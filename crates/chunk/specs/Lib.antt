@@ -1,2 +1,3 @@
--- The meaning of the chunk walk.
+-- The meaning of the chunk walk, and of a chunk written.
 pub mod Chunk
+pub mod ChunkBytes

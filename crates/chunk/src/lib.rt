@@ -1,5 +1,10 @@
-// The chunk walk of a FORM: where it ends, and what stands at a place of it.
+// The chunk walk of a FORM: where it ends, and what stands at a place of it; and chunks written.
+mod write;
+
 use field::read32;
+pub use write::put_chunk;
+pub use write::put_head;
+pub use write::put_pad;
 ghost use mathlib.Core.Path.{_≡_};
 ghost use Prim.Native.Nat.{_^_, _<_};
 ghost use lib.ListN.{length, take};

@@ -6,11 +6,11 @@ use crate::print::number;
 use crate::print::refused;
 use crate::print::samples;
 use crate::print::say;
+use body::decode_body;
 use fibonacci::fibonacci_decode_channel;
 use fibonacci::fibonacci_encode_channel;
 use refusal::Output;
 use samples::Loudest;
-use samples::decode_body;
 use samples::peak;
 
 fn read(body: &[u8]) {

@@ -1,35 +1,16 @@
--- The writer's choice: `argmin` is the first place at which f is least, for any f, so a picked nibble is, and it is below 16.
+-- `argmin` is the first place at which f is least, for any f, and only it is.
 -- Assumes nothing.
 use mathlib.Core.Path.{_≡_, refl}
 use mathlib.Core.Bool.{Bool, true, false, cond}
 use mathlib.Core.Logic.{⊎-elim}
-use Prim.Native.Nat.{ℕ, zero, suc, _+_, _-_, _≤_, _<_}
-use native.Mathlib.Nat.{le-refl, eq-or-lt-of-le, le-of-suc-le-suc}
+use Prim.Native.Nat.{ℕ, zero, suc, _≤_, _<_}
+use native.Mathlib.Nat.{le-refl, le-antisymm, eq-or-lt-of-le, le-of-suc-le-suc}
 use native.Mathlib.Omega.{arith}
-use borrow.Author.Tests.{ltb-true, ltb-false, lt-ltb, le-ltb}
+use borrow.Author.Tests.{ltb-true, ltb-false}
 use lib.Dec.{ltb}
-use lib.IntN.{ℤ, natAbs, _-ℤ_}
-use Rattle.laws.proofs.Signed.{zarith, diff, abs-parts}
-use Rattle.fibonacci.specs.Step.{fibStep}
-use Rattle.fibonacci.specs.Pick.{argmin, distance, fibPick}
+use Rattle.fibonacci.specs.Pick.{argmin}
 
 module _ (f : ℕ → ℕ) where
-  -- a turn of a loop that has looked at 0..k - 1 and looks at k
-  module _ (k : ℕ) (some : 1 ≤ k) where
-    last : suc (k - 1) ≡ k
-    last = omega arith
-
-    again : k + 1 - 1 ≡ suc (k - 1)
-    again = omega arith
-
-    pub argmin-taken : f k < f (argmin f (k - 1)) → k ≡ argmin f (k + 1 - 1)
-    unfolding argmin
-    argmin-taken h = rw again (rw last (rw (lt-ltb (f k) (f (argmin f (k - 1))) h)))
-
-    pub argmin-left : f (argmin f (k - 1)) ≤ f k → argmin f (k - 1) ≡ argmin f (k + 1 - 1)
-    unfolding argmin
-    argmin-left h = rw again (rw last (rw (le-ltb (f k) (f (argmin f (k - 1))) h)))
-
   -- it is one of 0..n, none of them is lower, and each before it is higher
   pub record Least (n m : ℕ) : Type 0 where
     pub within : m ≤ n
@@ -63,21 +44,21 @@ module _ (f : ℕ → ℕ) where
       none k h = omega arith
   argmin-least (suc n) = more n (argmin f n) (argmin f (suc n)) (ltb (f (suc n)) (f (argmin f n))) refl refl (argmin-least n)
 
--- the law of the choice: no nibble is nearer, and each lower one is farther
-pub pick-least : (prev target : ℤ) → Least (distance prev target) 15 (fibPick prev target)
-unfolding fibPick
-pick-least prev target = argmin-least (distance prev target) 15
+  no-later : (n a b : ℕ) → Least n a → Least n b → b ≤ a
+  no-later n a b p q = go (ltb a b) refl
+    where
+      go : (t : Bool) → ltb a b ≡ t → b ≤ a
+      go true e = absurd (omega (arith, p .least b (q .within), q .first a (ltb-true a b e)))
+      go false e = ltb-false a b e
 
-no-farther : (prev target : ℤ) (k : ℕ) → k ≤ 15 → natAbs (fibStep prev (fibPick prev target) -ℤ target) ≤ natAbs (fibStep prev k -ℤ target)
-unfolding distance
-no-farther prev target k h = pick-least prev target .least k h
+  -- there is one such place
+  pub least-one : (n a b : ℕ) → Least n a → Least n b → a ≡ b
+  least-one n a b p q = le-antisymm (no-later n b a q p) (no-later n a b p q)
 
--- a sample that a nibble reaches is reached by the nibble that is picked for it: what was decoded survives being written
-pub pick-exact : (prev : ℤ) (k : ℕ) → k ≤ 15 → fibStep prev (fibPick prev (fibStep prev k)) ≡ fibStep prev k
-pick-exact prev k h =
-    let target = fibStep prev k in
-    let picked = fibStep prev (fibPick prev target) in
-    omega (zarith, no-farther prev target k h, diff picked target, abs-parts (picked -ℤ target), diff target target, abs-parts (target -ℤ target))
-
-pub pick-below : (prev target : ℤ) → fibPick prev target < 16
-pick-below prev target = omega (arith, pick-least prev target .within)
+-- it is the same for what is the same at 0..n
+pub argmin-same : (f g : ℕ → ℕ) (n : ℕ) → ((k : ℕ) → k ≤ n → f k ≡ g k) → argmin f n ≡ argmin g n
+unfolding argmin
+argmin-same f g zero same = refl
+argmin-same f g (suc n) same =
+    let within : argmin g n ≤ n = argmin-least g n .within in
+    rw (argmin-same f g n (λ k h. same k (omega arith)), same (suc n) (omega arith), same (argmin g n) (omega arith))

@@ -1,14 +1,38 @@
--- Laws of a step: a sum brought back into a sample's range fits 8 bits, so every step does. No other file of laws looks into `toSample` or `fibStep`.
+-- Laws of the deltas and of a step. No other file of laws looks into `deltas`, `toSample` or `fibStep`.
 -- Assumes nothing.
 use mathlib.Core.Path.{_≡_, refl, ap}
-use Prim.Native.Nat.{ℕ, _-_, _≤_, min}
+use mathlib.Core.Logic.{⊎-elim}
+use Prim.Native.Nat.{ℕ, _-_, _≤_, _<_, min}
+use native.Mathlib.Nat.{eq-or-lt-of-le}
 use native.Mathlib.Omega.{arith}
-use lib.IntN.{ℤ, pos, negsuc, _+ℤ_}
-use lib.ListN.{List·getD-eq-default}
+use lib.IntN.{ℤ, pos, negsuc, _+ℤ_, _-ℤ_}
+use lib.ListN.{getD, List·getD-eq-default}
+use lib.Signed.{ltZ, ltZ-yes, _≤ℤ_, _<ℤ_}
 use mir.Syntax.{w8}
 use mir.Val.{SFits}
-use Rattle.laws.proofs.Signed.{up, dn, zarith, apart}
+use Rattle.laws.proofs.Signed.{up, dn, zarith, apart, known, sum, diff}
+use Rattle.laws.proofs.Table.{allBelow, below}
 use Rattle.fibonacci.specs.Step.{deltas, toSample, fibStep}
+
+-- ---- the deltas
+
+-- they rise with the nibble, from -34 to 21
+pub delta-rises : (a b : ℕ) → a < b → b < 16 → getD deltas a (pos 0) <ℤ getD deltas b (pos 0)
+unfolding deltas
+delta-rises a b h l = ltZ-yes (below (λ a. ltZ (getD deltas a (pos 0)) (getD deltas b (pos 0))) b (below (λ b. allBelow (λ a. ltZ (getD deltas a (pos 0)) (getD deltas b (pos 0))) b) 16 tt b l) a h)
+
+pub delta-no-lower : (a b : ℕ) → a ≤ b → b < 16 → getD deltas a (pos 0) ≤ℤ getD deltas b (pos 0)
+delta-no-lower a b h l = ⊎-elim (λ e. rw e (omega zarith)) (λ p. omega (zarith, delta-rises a b p l)) (eq-or-lt-of-le h)
+
+pub delta-first : getD deltas 0 (pos 0) ≡ negsuc 33
+unfolding deltas
+delta-first = refl
+
+pub delta-last : getD deltas 15 (pos 0) ≡ pos 21
+unfolding deltas
+delta-last = refl
+
+-- ---- a sum brought back into the range
 
 -- what is held at the ends, by parts
 pub record Held (z : ℤ) : Type 0 where
@@ -24,6 +48,18 @@ held (negsuc n) = record { above = refl; below = omega arith; one-is-zero = apar
 sample-fits : (z : ℤ) → SFits w8 (toSample z)
 sample-fits z = omega (zarith, held z)
 
+sample-kept : (z : ℤ) → SFits w8 z → toSample z ≡ z
+sample-kept z f = omega (zarith, held z, known f)
+
+sample-rises : (x y : ℤ) → x ≤ℤ y → toSample x ≤ℤ toSample y
+sample-rises x y h = omega (zarith, held x, held y)
+
+-- strictly, where the higher is held at neither end
+sample-strict : (x y : ℤ) → x <ℤ y → y ≤ℤ pos 127 → negsuc 127 <ℤ toSample y → toSample x <ℤ toSample y
+sample-strict x y h u l = omega (zarith, held x, held y)
+
+-- ---- a step
+
 -- every step is a sample
 pub step-fits : (prev : ℤ) (nibble : ℕ) → SFits w8 (fibStep prev nibble)
 unfolding fibStep
@@ -33,3 +69,46 @@ step-fits prev nibble = sample-fits _
 pub step-past : (prev : ℤ) (nibble : ℕ) → 16 ≤ nibble → fibStep prev nibble ≡ fibStep prev 8
 unfolding fibStep deltas
 step-past prev nibble h = ap (λ (d : ℤ). toSample (prev +ℤ d)) (List·getD-eq-default deltas (pos 0) h)
+
+-- the last nibble leads up, so not to -128
+pub step-last : (prev : ℤ) → SFits w8 prev → negsuc 127 <ℤ fibStep prev 15
+unfolding fibStep deltas
+step-last prev f = omega (zarith, held (prev +ℤ pos 21), sum prev (pos 21), known f)
+
+-- far enough from the ends no step is held
+pub step-free : (prev : ℤ) (k : ℕ) → negsuc 93 ≤ℤ prev → prev ≤ℤ pos 106 → k < 16 → fibStep prev k ≡ prev +ℤ getD deltas k (pos 0)
+unfolding fibStep
+step-free prev k l u h =
+    let d = getD deltas k (pos 0) in
+    sample-kept (prev +ℤ d) (omega (zarith, sum prev d, delta-no-lower 0 k (omega arith) h, delta-no-lower k 15 (omega arith) (omega arith), delta-first, delta-last))
+
+-- a higher nibble leads no lower
+pub step-rises : (prev : ℤ) (a b : ℕ) → a ≤ b → b < 16 → fibStep prev a ≤ℤ fibStep prev b
+unfolding fibStep
+step-rises prev a b h l =
+    let x = getD deltas a (pos 0) in
+    let y = getD deltas b (pos 0) in
+    sample-rises (prev +ℤ x) (prev +ℤ y) (omega (zarith, delta-no-lower a b h l, sum prev x .parts, sum prev y .parts))
+
+-- a step toward a target, by the side of the change on which its delta lies
+module _ (prev target : ℤ) (f : SFits w8 target) (k : ℕ) where
+  pub step-over : (target -ℤ prev) ≤ℤ getD deltas k (pos 0) → target ≤ℤ fibStep prev k
+  unfolding fibStep
+  step-over h =
+      let d = getD deltas k (pos 0) in
+      rw (sample-kept target f) at (sample-rises target (prev +ℤ d) (omega (zarith, sum prev d .parts, diff target prev .parts)))
+
+  module _ (short : getD deltas k (pos 0) ≤ℤ (target -ℤ prev)) where
+    pub step-short : fibStep prev k ≤ℤ target
+    unfolding fibStep
+    step-short =
+        let d = getD deltas k (pos 0) in
+        rw (sample-kept target f) at (sample-rises (prev +ℤ d) target (omega (zarith, sum prev d .parts, diff target prev .parts)))
+
+    -- a lower nibble leads lower, unless the step is held at -128
+    pub step-lower : (a : ℕ) → a < k → k < 16 → negsuc 127 <ℤ fibStep prev k → fibStep prev a <ℤ fibStep prev k
+    unfolding fibStep
+    step-lower a h l free =
+        let x = getD deltas a (pos 0) in
+        let y = getD deltas k (pos 0) in
+        sample-strict (prev +ℤ x) (prev +ℤ y) (omega (zarith, delta-rises a k h l, sum prev x .parts, sum prev y .parts)) (omega (zarith, sum prev y .parts, diff target prev .parts, known f)) free

@@ -20,7 +20,7 @@ use Rattle.fibonacci.specs.Pick.{fibPick}
 use Rattle.fibonacci.specs.Decode.{nibbles, running, fibSamples}
 use Rattle.fibonacci.specs.Encode.{picks, packed, fibBytes}
 use Rattle.fibonacci.proofs.StepLaws.{step-past}
-use Rattle.fibonacci.proofs.Least.{pick-exact, pick-below}
+use Rattle.fibonacci.proofs.PickLaws.{pick-exact, pick-below}
 use Rattle.fibonacci.proofs.DecodeLaws.{nibbles-length, running-length, samples-length, running-first}
 use Rattle.fibonacci.proofs.EncodeLaws.{bytes-length}
 

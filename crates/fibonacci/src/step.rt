@@ -8,7 +8,7 @@ ghost use Rattle.fibonacci.specs.Step.{deltas, toSample, fibStep};
 const DELTAS: [i8; 16] = [-34, -21, -13, -8, -5, -3, -2, -1, 0, 1, 2, 3, 5, 8, 13, 21];
 
 // A nibble's delta.
-fn delta(nibble: u8) -> i8
+pub(crate) fn delta(nibble: u8) -> i8
     requires { ⌜ nibble < 16 ⌝ }
     ensures { λ r. ⌜ r ≡ getD deltas nibble (pos 0) ⌝ }
 {

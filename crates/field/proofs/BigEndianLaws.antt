@@ -9,7 +9,7 @@ use mathlib.Core.List.{List, [], _∷_, _++_}
 use mathlib.Core.Path.{_≡_, refl, sym, ap, _∙_}
 use native.Mathlib.Nat.{add-zero, add-mul, mul-assoc, mul-comm, mul-right-comm, mul-le-mul-right, mod-one, mod-lt, pow-suc, one-le-pow, div-add-mod', mul-add-mod-self-left, mul-add-mod-self-right, mod-eq-of-lt, mul-add-div-right, div-eq-of-lt, not-suc-le-zero, le-of-suc-le-suc}
 use native.Mathlib.Omega.{arith}
-use Rattle.field.specs.BigEndian.{bigEndian, bigEndianBytes}
+use Rattle.field.specs.BigEndian.{Bytes, bigEndian, bigEndianBytes}
 
 -- two bytes at a place
 pub number16-at : (s : List ℕ) (at : ℕ) → bigEndian 2 (drop at s) ≡ getD s at 0 * 256 + getD s (at + 1) 0
@@ -82,10 +82,6 @@ number-back n v rest h = number-append n (bigEndianBytes n v) rest (omega (arith
 
 -- ---- of bytes, the other way
 
--- every element is below 256, as it is in a slice of bytes
-abbrev pub Bytes : List ℕ → Type 0
-Bytes l = (i : ℕ) → getD l i 0 < 256
-
 pub bytes-tail : (b : ℕ) (l : List ℕ) → Bytes (b ∷ l) → Bytes l
 bytes-tail b l h i = h (suc i)
 
@@ -97,6 +93,11 @@ bytes-take (suc n) (b ∷ l) h (suc i) = bytes-take n l (bytes-tail b l h) i
 
 pub bytes-drop : (n : ℕ) (l : List ℕ) → Bytes l → Bytes (drop n l)
 bytes-drop n l h i = rw getD-drop (h (n + i))
+
+pub bytes-append : (l m : List ℕ) → Bytes l → Bytes m → Bytes (l ++ m)
+bytes-append [] m h k i = k i
+bytes-append (b ∷ l) m h k zero = h 0
+bytes-append (b ∷ l) m h k (suc i) = bytes-append l m (bytes-tail b l h) k i
 
 pub number-fits : (n : ℕ) (l : List ℕ) → Bytes l → bigEndian n l < 256 ^ n
 number-fits zero l h = rw (number-none l) (omega arith)
@@ -111,6 +112,9 @@ bytes-above (suc n) c x =
     let regroup : c * 256 ^ suc n ≡ c * 256 * m = rw (pow-suc 256 n) (sym (mul-assoc c m 256) ∙ mul-right-comm c m 256) in
     let first : (c * 256 * m + x) / m % 256 ≡ x / m % 256 = rw (mul-add-div-right (one-le-pow n 256 (omega arith)) (c * 256) x) (mul-add-mod-self-right c 256 (x / m)) in
     rw (regroup, first, bytes-above n (c * 256) x)
+
+pub bytes-low : (n v : ℕ) → bigEndianBytes n (v % 256 ^ n) ≡ bigEndianBytes n v
+bytes-low n v = sym (bytes-above n (v / 256 ^ n) (v % 256 ^ n)) ∙ ap (bigEndianBytes n) (div-add-mod' v (256 ^ n))
 
 pub number-bytes : (n : ℕ) (l : List ℕ) → Bytes l → n ≤ length l → bigEndianBytes n (bigEndian n l) ≡ take n l
 unfolding bigEndianBytes

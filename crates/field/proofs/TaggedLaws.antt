@@ -1,4 +1,4 @@
--- The laws of `tagged`: its parts one by one, and its length. No proof elsewhere unfolds it.
+-- The laws of `parts` and `tagged`: their parts one by one, and the length of `tagged`. No proof elsewhere unfolds them.
 -- Assumes nothing.
 use Prim.Native.Nat.{ℕ, suc, _+_, _-_, _*_, _≤_, _<_, min, zero-le}
 use borrow.Author.Tests.{lt-ltb, le-ltb, ltb-false}
@@ -10,9 +10,23 @@ use mathlib.Core.List.{List, [], _∷_, _++_}
 use mathlib.Core.Path.{_≡_, refl, ap, _∙_}
 use native.Mathlib.Nat.{sub-zero}
 use native.Mathlib.Omega.{arith}
-use Rattle.field.specs.Tagged.{firstTagged, tagged}
+use Rattle.field.specs.Tagged.{firstPart, parts, firstTagged, tagged}
 use Rattle.laws.specs.Walk.{more, last, each}
 use Rattle.laws.proofs.WalkLaws.{walk-more, walk-last, walk-bound}
+
+module _ (n : ℕ) (pos : 0 < n) where
+  no-part : firstPart n [] ≡ last []
+  no-part = rw (lt-ltb 0 n pos)
+
+  pub parts-more : (l : List ℕ) → n ≤ length l → parts n l ≡ take n l ∷ parts n (drop n l)
+  unfolding parts
+  parts-more l h =
+      let e : suc (n - 1) ≡ n = omega arith in
+      walk-more (firstPart n) no-part l (take n l) (n - 1) (rw (le-ltb (length l) n h)) ∙ rw e
+
+  pub parts-end : (l : List ℕ) → length l < n → parts n l ≡ []
+  unfolding parts
+  parts-end l h = walk-last (firstPart n) no-part l [] (rw (lt-ltb (length l) n h))
 
 module _ (t n : ℕ) (pos : 0 < n) where
   nil : firstTagged t n [] ≡ last []

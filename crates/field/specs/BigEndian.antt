@@ -1,7 +1,11 @@
 -- Big-endian numbers.
-use Prim.Native.Nat.{ℕ, zero, suc, _+_, _*_, _/_, _%_, _^_}
+use Prim.Native.Nat.{ℕ, zero, suc, _+_, _*_, _/_, _%_, _^_, _<_}
 use lib.ListN.{getD}
 use mathlib.Core.List.{List, [], _∷_}
+
+-- every number of a list is a byte
+abbrev pub Bytes : List ℕ → Type 0
+Bytes l = (i : ℕ) → getD l i 0 < 256
 
 -- the number in the first n bytes, the highest byte first
 unfoldable pub bigEndian : ℕ → List ℕ → ℕ

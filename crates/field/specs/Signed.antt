@@ -3,6 +3,10 @@ use mathlib.Core.Bool.{cond}
 use Prim.Native.Nat.{ℕ, suc, _+_, _-_, _^_}
 use lib.Dec.{ltb}
 use lib.IntN.{ℤ, pos, negsuc}
+use lib.ListN.{getD}
+use mathlib.Core.List.{List}
+use mir.Syntax.{w8}
+use mir.Val.{SFits}
 
 -- of 2 h values: below h the number itself, from h on the number less 2 h
 unfoldable pub twosComplement : ℕ → ℕ → ℤ
@@ -16,6 +20,10 @@ twosComplementBits h (negsuc n) = h + h - suc n
 -- a byte as a sample, -128..127
 abbrev pub sampleOf : ℕ → ℤ
 sampleOf b = twosComplement 128 b
+
+-- every number of a list is a sample
+abbrev pub Samples : List ℤ → Type 0
+Samples l = (i : ℕ) → SFits w8 (getD l i (pos 0))
 
 -- a sample as a byte
 abbrev pub byteOf : ℤ → ℕ

@@ -12,9 +12,9 @@ use lib.ListN.{getD, drop}
 use mir.Syntax.{w32}
 use mir.Val.{SFits}
 use mir.Facts.{sfits-toZ}
-use Rattle.field.specs.BigEndian.{bigEndian}
+use Rattle.field.specs.BigEndian.{bigEndian, Bytes}
 use Rattle.field.specs.Signed.{signed32}
-use Rattle.field.proofs.BigEndianLaws.{Bytes, bytes-drop, number-fits}
+use Rattle.field.proofs.BigEndianLaws.{bytes-drop, number-fits}
 use Rattle.field.proofs.SignedLaws.{read-is}
 use Rattle.header.specs.Header.{headerOf, headerBytes, Fitting}
 use Rattle.header.proofs.HeaderLaws.{header-length, header-back, bytes-back, header-fits}

@@ -12,7 +12,7 @@ use mathlib.Core.Path.{_≡_, refl, sym, ap, _∙_}
 use native.Mathlib.Omega.{arith}
 use lib.ListN.{length, getD, take}
 use lib.Seq.{take-all}
-use Rattle.field.proofs.BigEndianLaws.{Bytes}
+use Rattle.field.specs.BigEndian.{Bytes}
 use Rattle.sheet.specs.Allowed.{All, IfThere}
 use Rattle.sheet.specs.Record.{bodyLength, unknownKind}
 use Rattle.sheet.specs.Order.{valueWrong}

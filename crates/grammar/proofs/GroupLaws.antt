@@ -45,7 +45,7 @@ apart j k o p e =
 -- ---- past a group's members
 
 module _ (rest : List Item) where
-  leading-members : (m : ℕ) (ms : List (List ℕ)) → leading m (map (entry m) ms ++ rest) ≡ ms ++ leading m rest
+  pub leading-members : (m : ℕ) (ms : List (List ℕ)) → leading m (map (entry m) ms ++ rest) ≡ ms ++ leading m rest
   leading-members m [] = refl
   leading-members m (b ∷ ms) = leading-own m b _ m (eq-eqb m m refl) ∙ ap (λ (l : List (List ℕ)). b ∷ l) (leading-members m ms)
 
@@ -56,7 +56,7 @@ module _ (rest : List Item) where
 -- ---- past the groups of one kind
 
 module _ (rest : List Item) where
-  leading-section : (m k : ℕ) (gs : List Group) → eqb k m ≡ false → leading m rest ≡ [] → leading m (section k gs ++ rest) ≡ []
+  pub leading-section : (m k : ℕ) (gs : List Group) → eqb k m ≡ false → leading m rest ≡ [] → leading m (section k gs ++ rest) ≡ []
   leading-section m k [] e h = h
   leading-section m k (g ∷ gs) e h = leading-other k (g .body) _ m e
 
@@ -93,7 +93,7 @@ pub ascending : Ascending 0 openers
 ascending = (tt, (tt, (tt, (tt, (tt, (tt, (tt, (tt, tt))))))))
 
 module _ (gs : ℕ → List Group) (j : ℕ) (o : Opener j) where
-  no-members : (ks : List ℕ) → All Opener ks → leading (member j) (sections ks gs) ≡ []
+  pub no-members : (ks : List ℕ) → All Opener ks → leading (member j) (sections ks gs) ≡ []
   unfolding leading
   no-members [] p = refl
   no-members (k ∷ ks) p = leading-section (sections ks gs) (member j) k (gs k) (ne-eqb k (member j) (λ e. apart k j (p .0) o (sym e))) (no-members ks (p .1))

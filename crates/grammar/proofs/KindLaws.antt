@@ -8,6 +8,7 @@ use native.Mathlib.Omega.{arith}
 use borrow.Author.Tests.{le-ltb, ltb-false, leb-true, eqb-true, eqb-false}
 use lib.Dec.{T, eqb, ltb, leb}
 use lib.ListN.{getD}
+use Rattle.laws.proofs.Cases.{neither}
 use Rattle.laws.proofs.Table.{allBelow, below}
 use Rattle.sheet.specs.Allowed.{All}
 use Rattle.sheet.specs.Record.{unknownKind}
@@ -74,10 +75,6 @@ same-eq true false t = absurd t
 same-eq false true t = absurd t
 same-eq false false t = refl
 
-pub or-none : (a b : Bool) → (a || b) ≡ false → (a ≡ false) × (b ≡ false)
-or-none true b e = absurd (true≢false e)
-or-none false b e = (refl, e)
-
 second : (a b : Bool) → T (a || b) → a ≡ false → T b
 second true b t e = absurd (true≢false e)
 second false b t e = t
@@ -87,10 +84,10 @@ is-true true t = refl
 is-true false t = absurd t
 
 pub known-from : (k : ℕ) → unknownKind k ≡ false → 0 < k
-known-from k u = omega (arith, eqb-false k 0 (or-none (eqb k 0) (ltb 11 k) u .0))
+known-from k u = omega (arith, eqb-false k 0 (neither (eqb k 0) (ltb 11 k) u .0))
 
 known-to : (k : ℕ) → unknownKind k ≡ false → k < 12
-known-to k u = omega (arith, ltb-false 11 k (or-none (eqb k 0) (ltb 11 k) u .1))
+known-to k u = omega (arith, ltb-false 11 k (neither (eqb k 0) (ltb 11 k) u .1))
 
 rule : (f : ℕ → Bool) → T (allBelow (λ k. unknownKind k || f k) 12) → (k : ℕ) → unknownKind k ≡ false → T (f k)
 rule f t k u = second (unknownKind k) (f k) (below (λ (j : ℕ). unknownKind j || f j) 12 t k (known-to k u)) u
@@ -101,10 +98,10 @@ Opener k = (unknownKind k || belongs k) ≡ false
 
 module _ (k : ℕ) (o : Opener k) where
   pub known-kind : unknownKind k ≡ false
-  known-kind = or-none (unknownKind k) (belongs k) o .0
+  known-kind = neither (unknownKind k) (belongs k) o .0
 
   pub opens-group : belongs k ≡ false
-  opens-group = or-none (unknownKind k) (belongs k) o .1
+  opens-group = neither (unknownKind k) (belongs k) o .1
 
 pub all-open : All Opener openers
 all-open = (refl, (refl, (refl, (refl, (refl, (refl, (refl, (refl, tt))))))))
@@ -134,7 +131,7 @@ pub placed : (g k : ℕ) → earliestOf k ≤ g → g ≤ latestOf k → misplac
 placed g k e l = rw (le-ltb g (earliestOf k) e, le-ltb (latestOf k) g l)
 
 pub placed-le : (g k : ℕ) → misplaced g k ≡ false → g ≤ latestOf k
-placed-le g k p = ltb-false _ _ (or-none (ltb g (earliestOf k)) (ltb (latestOf k) g) p .1)
+placed-le g k p = ltb-false _ _ (neither (ltb g (earliestOf k)) (ltb (latestOf k) g) p .1)
 
 -- what belongs to a group and may come while g is in hand is a member of g
 pub belongs-member : (g k : ℕ) → unknownKind k ≡ false → misplaced g k ≡ false → eqb k (member g) ≡ belongs k

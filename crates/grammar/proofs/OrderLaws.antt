@@ -11,8 +11,9 @@ use borrow.Author.Tests.{ne-eqb, eqb-false}
 use lib.Dec.{eqb}
 use lib.ListN.{length, getD}
 use lib.Seq.{take-at, drop-at}
+use Rattle.field.specs.BigEndian.{Bytes}
 use Rattle.laws.specs.Walk.{each}
-use Rattle.field.proofs.BigEndianLaws.{Bytes, bytes-tail, bytes-take, bytes-drop}
+use Rattle.field.proofs.BigEndianLaws.{bytes-tail, bytes-take, bytes-drop}
 use Rattle.refusal.specs.Numbers.{recordWrong}
 use Rattle.sheet.specs.Allowed.{All}
 use Rattle.sheet.specs.Record.{Item, entry, records}

@@ -12,6 +12,7 @@ use native.Mathlib.Omega.{arith}
 use borrow.Author.Tests.{ltb-true, ltb-false, eqb-true, eqb-false, ne-eqb}
 use lib.Dec.{eqb, ltb}
 use lib.ListN.{length}
+use Rattle.laws.proofs.Cases.{neither}
 use Rattle.sheet.specs.Allowed.{All}
 use Rattle.sheet.specs.Record.{unknownKind, Item, entry, bad}
 use Rattle.sheet.specs.Order.{belongs, misplaced, groupAfter}
@@ -19,7 +20,7 @@ use Rattle.sheet.specs.Read.{leading, Group, groups}
 use Rattle.grammar.proofs.ListLaws.{all-imply}
 use Rattle.grammar.proofs.RecordLaws.{OfItem}
 use Rattle.grammar.proofs.OrderLaws.{Correct, Ordered, end, more}
-use Rattle.grammar.proofs.KindLaws.{header-first, or-none, Opener, all-open, known-kind, opens-group, isIn, member, openers, latestOf, latest-le, placed-le, opens-or-belongs, belongs-member}
+use Rattle.grammar.proofs.KindLaws.{header-first, Opener, all-open, known-kind, opens-group, isIn, member, openers, latestOf, latest-le, placed-le, opens-or-belongs, belongs-member}
 use Rattle.grammar.proofs.Sections.{groupItems, section, sections, OfGroup, Listed}
 use Rattle.grammar.proofs.GroupLaws.{leading-own, leading-other, groups-own, groups-other, Ascending, ascending, not-in}
 
@@ -63,7 +64,7 @@ module _ (k : ℕ) (b : List ℕ) (items : List Item) where
   same-sections : (ks : List ℕ) → isIn k ks ≡ false → sections ks (groupsIn (entry k b ∷ items)) ≡ sections ks (groupsIn items)
   same-sections [] h = refl
   same-sections (j ∷ ks) h =
-      let parts = or-none (eqb k j) (isIn k ks) h in
+      let parts = neither (eqb k j) (isIn k ks) h in
       rw (same-groups j (λ e. eqb-false k j (parts .0) (sym e)), same-sections ks (parts .1))
 
   -- one that opens the first of them
@@ -113,7 +114,7 @@ none-in-hand : (items : List Item) → All (OfItem Correct) items → leading 0 
 unfolding leading
 none-in-hand [] r = refl
 none-in-hand (bad n ∷ items) r = refl
-none-in-hand (entry k b ∷ items) r = leading-other k b items 0 (or-none (eqb k 0) (ltb 11 k) (r .0 .whole .known) .0)
+none-in-hand (entry k b ∷ items) r = leading-other k b items 0 (neither (eqb k 0) (ltb 11 k) (r .0 .whole .known) .0)
 
 pub regroup-all : (items : List Item) → Ordered 0 items → All (OfItem Correct) items → sections openers (groupsIn items) ≡ items
 regroup-all items o r = ap (λ (l : List (List ℕ)). map (entry 0) l ++ sections openers (groupsIn items)) (sym (none-in-hand items r)) ∙ regroup o r

@@ -8,8 +8,8 @@ use native.Mathlib.Omega.{arith}
 use borrow.Author.Tests.{eqb-true}
 use lib.Dec.{eqb}
 use lib.ListN.{length}
+use Rattle.field.specs.BigEndian.{Bytes}
 use Rattle.laws.specs.Walk.{each}
-use Rattle.field.proofs.BigEndianLaws.{Bytes}
 use Rattle.refusal.specs.Numbers.{textIllFormed}
 use Rattle.sheet.specs.Flat.{flat}
 use Rattle.sheet.specs.Allowed.{All, Allowed}

@@ -6,7 +6,7 @@
 use Prim.Native.Nat.{ℕ}
 use mathlib.Core.List.{List}
 use mathlib.Core.Path.{_≡_, sym, ap, _∙_}
-use Rattle.field.proofs.BigEndianLaws.{Bytes}
+use Rattle.field.specs.BigEndian.{Bytes}
 use Rattle.sheet.specs.Voice.{Voice}
 use Rattle.sheet.specs.Flat.{flat}
 use Rattle.sheet.specs.Allowed.{Allowed}

@@ -51,7 +51,7 @@ groupsOf v k =
 -- ---- their bytes
 
 module _ {A : Type 0} where
-  each-listed : {B : Type 0} (w : A → B) (f : B → List ℕ) (g : A → List ℕ) → ((a : A) → f (w a) ≡ g a) → (o : Option A) → each f (map w (listed o)) ≡ ifThere g o
+  pub each-listed : {B : Type 0} (w : A → B) (f : B → List ℕ) (g : A → List ℕ) → ((a : A) → f (w a) ≡ g a) → (o : Option A) → each f (map w (listed o)) ≡ ifThere g o
   each-listed w f g e none = refl
   each-listed w f g e (some a) = append-nil (f (w a)) ∙ e a
 

@@ -9,8 +9,8 @@ use mathlib.Core.Path.{_≡_, sym, ap, _∙_}
 use native.Mathlib.Omega.{arith}
 use lib.ListN.{length, getD, take, drop, length-append, length-drop}
 use lib.Seq.{getD-drop, drop-drop, drop-at, take-add, drop-cons}
-use Rattle.field.specs.BigEndian.{bigEndian, bigEndianBytes}
-use Rattle.field.proofs.BigEndianLaws.{Bytes, bytes-length, bytes-drop, number-back, number-bytes, number-fits}
+use Rattle.field.specs.BigEndian.{bigEndian, bigEndianBytes, Bytes}
+use Rattle.field.proofs.BigEndianLaws.{bytes-length, bytes-drop, number-back, number-bytes, number-fits}
 use Rattle.header.specs.Header.{headerOf, headerBytes, Fitting}
 use Rattle.header.specs.declared.«voice_header».VoiceHeader.{VoiceHeader}
 

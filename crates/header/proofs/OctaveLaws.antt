@@ -9,7 +9,7 @@ use mathlib.Core.Path.{_≡_, refl, sym, ap, ap₂, _∙_}
 use native.Mathlib.Nat.{mul-add, pow-suc, zero-mul, mul-le-mul, le-div-iff-mul-le, div-lt-iff-lt-mul}
 use native.Mathlib.Numerals.{add-one}
 use native.Mathlib.Omega.{arith}
-use borrow.Author.Tests.{lt-ltb, le-ltb, ltb-false}
+use borrow.Author.Tests.{lt-ltb, le-ltb, ltb-true, ltb-false}
 use lib.Dec.{ltb}
 use lib.Pow.{pow-pos, pow-mono, high, ones-lt, ones-split}
 use Rattle.refusal.specs.Numbers.{octaveTotal}
@@ -110,3 +110,19 @@ largest-total = refl
 pub octave-past-it : total (oneSample 65) ≡ Refused 13
 unfolding totalSamples
 octave-past-it = refl
+
+-- the total, where it is one
+pub total-is : (h : VoiceHeader) (n : ℕ) → total h ≡ Sum n → (totalSamples h < 2 ^ 64) × (totalSamples h ≡ n)
+total-is h n = go (ltb (totalSamples h) (2 ^ 64)) refl
+  where
+    go : (t : Bool) → ltb (totalSamples h) (2 ^ 64) ≡ t → cond t (Sum (totalSamples h)) (Refused octaveTotal) ≡ Sum n → (totalSamples h < 2 ^ 64) × (totalSamples h ≡ n)
+    go true te e = (ltb-true (totalSamples h) (2 ^ 64) te, cc)
+    go false te e = let z : _≡_ {A = ℕ} 0 1 = cc in absurd (omega arith)
+
+-- and where it is not
+pub total-not : (h : VoiceHeader) (number : ℕ) → total h ≡ Refused number → (2 ^ 64 ≤ totalSamples h) × (octaveTotal ≡ number)
+total-not h number = go (ltb (totalSamples h) (2 ^ 64)) refl
+  where
+    go : (t : Bool) → ltb (totalSamples h) (2 ^ 64) ≡ t → cond t (Sum (totalSamples h)) (Refused octaveTotal) ≡ Refused number → (2 ^ 64 ≤ totalSamples h) × (octaveTotal ≡ number)
+    go true te e = let z : _≡_ {A = ℕ} 0 1 = cc in absurd (omega arith)
+    go false te e = (ltb-false (totalSamples h) (2 ^ 64) te, cc)

@@ -1,4 +1,5 @@
 -- Laws that the proofs of every crate cite.
+pub mod Cases
 pub mod WalkLaws
 pub mod PutLaws
 pub mod Prefix

@@ -5,9 +5,10 @@
 --     prefix-whole, prefix-part     in the end: all of want, or its first n elements, and past them what d held
 --     prefix-map, prefix-map-whole  where want is f of each element of a list
 -- Assumes nothing.
-use mathlib.Core.Path.{_≡_, sym, ap, _∙_}
+use mathlib.Core.Path.{_≡_, refl, sym, ap, _∙_}
 use mathlib.Core.List.{List, [], _∷_, _++_, map, append-assoc}
-use Prim.Native.Nat.{ℕ, zero, suc, _+_, _≤_, _<_}
+use Prim.Native.Nat.{ℕ, zero, suc, _+_, _-_, _≤_, _<_}
+use native.Mathlib.Nat.{sub-zero, suc-sub-suc}
 use native.Mathlib.Numerals.{add-one}
 use native.Mathlib.Omega.{arith}
 use lib.ListN.{length, take, drop, set, getD, length-append, length-drop, length-map, List·getD-map}
@@ -62,3 +63,14 @@ module _ {A B : Type 0} (f : A → B) (l : List A) where
 
   pub prefix-map-whole : (d : List B) (i : ℕ) → i ≡ length l → take i (map f l) ++ drop i d ≡ written (map f l) d
   prefix-map-whole d i e = prefix-whole (map f l) d i (e ∙ sym (length-map l f))
+
+take-none : {A : Type 0} (m : ℕ) → _≡_ {A = List A} (take m []) []
+take-none zero = refl
+take-none (suc m) = refl
+
+-- what is left of the first k elements past n of them
+pub drop-take : {A : Type 0} (n k : ℕ) (l : List A) → drop n (take k l) ≡ take (k - n) (drop n l)
+drop-take zero k l = rw (sub-zero k)
+drop-take (suc n) zero l = let e : 0 - suc n ≡ 0 = omega arith in rw e
+drop-take (suc n) (suc k) [] = sym (take-none (suc k - suc n))
+drop-take (suc n) (suc k) (x ∷ l) = rw (suc-sub-suc k n) (drop-take n k l)

@@ -7,10 +7,10 @@ use Prim.Native.Nat.{ℕ, suc, _+_}
 use lib.Dec.{eqb}
 use lib.ListN.{length, drop}
 use lib.Seq.{drop-drop, drop-append-seam}
-use mathlib.Core.Bool.{Bool, true, false, _||_}
+use mathlib.Core.Bool.{Bool, false, _||_}
 use mathlib.Core.List.{List, [], _∷_, _++_, append-nil, append-assoc}
 use mathlib.Core.Path.{_≡_, refl, sym, ap, _∙_}
-use native.Mathlib.Omega.{arith}
+use Rattle.laws.proofs.Cases.{neither}
 use Rattle.laws.specs.Walk.{each}
 use Rattle.header.specs.Header.{headerBytes}
 use Rattle.header.proofs.HeaderLaws.{header-length}
@@ -105,11 +105,6 @@ module _ (v : Voice) (s : List ℕ) (e : flat v ≡ s) where
   at-fade = past-part (sequenceAt v) s (sequencePart v) (fromFade v) at-sequence
 
 -- ---- kinds that no later part begins with
-
--- of two tests neither holds
-neither : (x y : Bool) → x || y ≡ false → (x ≡ false) × (y ≡ false)
-neither true y e = let z : _≡_ {A = ℕ} 0 1 = cc in absurd (omega arith)
-neither false y e = (refl, e)
 
 -- that a kind is one of these
 abbrev among : ℕ → List ℕ → Bool

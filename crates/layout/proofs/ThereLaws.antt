@@ -1,23 +1,25 @@
 -- A part that may be missing: where two places are one it is missing, and where they differ it stands at the first of them.
 --     missing, present                                          of any part
 --     present-read                                              what stands there reads as the part
+--     channel-byte                                              the byte of a channel that is there
 --     channel-missing, pan-missing, fade-missing                of the parts of a voice, by its layout
 --     channel-present, pan-present, fade-present
 --     sequence-missing, sequence-within, sequence-counted       a sequence by the bytes that it takes
 -- Assumes nothing.
 use Prim.Native.Nat.{ℕ, suc, _+_, _-_, _*_, _/_, _≤_}
 use lib.Dec.{lit<}
-use lib.ListN.{length, drop, length-append, length-drop}
-use lib.Seq.{drop-drop}
+use lib.ListN.{length, getD, drop, length-append, length-drop}
+use lib.Seq.{getD-drop, drop-drop}
 use mathlib.Core.List.{List, [], _∷_, _++_}
 use mathlib.Core.Option.{Option, none, some}
 use mathlib.Core.Path.{_≡_, refl, sym, ap, subst, _∙_}
-use native.Mathlib.Nat.{mul-div-cancel}
+use native.Mathlib.Nat.{add-zero, mul-div-cancel}
 use native.Mathlib.Omega.{arith}
 use Rattle.laws.specs.Walk.{each}
 use Rattle.small_chunks.specs.Channel.{channelValueOf}
 use Rattle.small_chunks.specs.Pan.{panBytes}
 use Rattle.small_chunks.specs.Sequence.{fadeBytes}
+use Rattle.small_chunks.specs.declared.channel.ChannelAssignment.{ChannelAssignment}
 use Rattle.small_chunks.specs.declared.sequence.SeqnSegment.{SeqnSegment}
 use Rattle.small_chunks.proofs.FieldLaws.{segment-length}
 use Rattle.sheet.specs.Allowed.{IfThere}
@@ -56,6 +58,11 @@ module _ {A : Type 0} (k : ℕ) (f : A → List ℕ) where
 pub present-read : {A : Type 0} {f : A → List ℕ} {o : Option A} {at : ℕ} {s rest : List ℕ} (of : List ℕ → A) (P : A → Type 0) → ((a : A) (r : List ℕ) → P a → of (f a ++ r) ≡ a) → Present f o at s rest → IfThere P o → o ≡ some (of (drop (at + 1) s))
 present-read {rest = rest} of P back p h =
     p .is ∙ ap some (sym (ap of (p .body) ∙ back (p .value) rest (subst (λ x. IfThere P x) (p .is) h)))
+
+-- a channel's byte is its value
+pub channel-byte : {o : Option ChannelAssignment} {at : ℕ} {s rest : List ℕ} (p : Present (λ c. channelValueOf c ∷ []) o at s rest) → getD s (at + 1) 0 ≡ channelValueOf (p .value)
+channel-byte {at = at} {s = s} p =
+    ap (λ (i : ℕ). getD s i 0) (sym (add-zero (at + 1))) ∙ sym (getD-drop (at + 1) s 0 0) ∙ ap (λ (l : List ℕ). getD l 0 0) (p .body)
 
 -- ---- the parts of a voice
 

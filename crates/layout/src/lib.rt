@@ -10,6 +10,7 @@ ghost use Prim.Native.Nat.{_+_, _≤_};
 ghost use lib.ListN.{drop};
 ghost use Rattle.sheet.specs.Judge.{judged};
 ghost use Rattle.sheet.specs.Read.{readSheet};
+ghost use Rattle.sheet.specs.Voice.{isStereo};
 ghost use Rattle.sheet.specs.declared.judge.Judged.the-variants.{Sound};
 ghost use Rattle.layout.specs.Layout.{layoutOf};
 ghost use Rattle.layout.specs.Stretch.{oneLength, stretch};
@@ -110,6 +111,18 @@ pub fn sheet_header(sheet: &[u8]) -> VoiceHeader
     ensures { λ r. ⌜ r ≡ readSheet (now (sheet .entry)) .header ⌝ }
 {
     VoiceHeader::read(sheet, 1)
+}
+
+// That it has two channels. A channel's record, where there is one, follows the header's.
+pub fn sheet_stereo(sheet: &[u8]) -> bool
+    requires { ⌜ judged (now sheet) ≡ Sound ⌝ }
+    ensures { λ r. ⌜ r ≡ isStereo (readSheet (now (sheet .entry)) .channel) ⌝ }
+{
+    let pan = past_one(sheet, 21, 2, 2);
+    if pan == 21 {
+        return false;
+    }
+    sheet[22] == 6
 }
 
 // Its channel, where it has one.

@@ -1,5 +1,4 @@
--- The meaning of BODY: its channels as samples, and the loudest of samples.
+-- The meaning of samples: a channel's bytes as samples, the two halves of BODY, and the loudest of samples.
 pub mod Stream
 pub mod Halves
-pub mod Body
 pub mod Peak

@@ -1,10 +1,8 @@
-// BODY: raw and Fibonacci channels as samples, two channels by halves, a whole BODY decoded, and the loudest sample.
-mod body;
+// Samples: raw bytes as samples and back, the two channels of a BODY, and the loudest sample.
 mod halves;
 mod loudness;
 mod raw;
 
-pub use body::decode_body;
 pub use halves::left_half;
 pub use halves::right_half;
 pub use loudness::Loudest;

@@ -5,10 +5,11 @@ use Prim.Native.Nat.{ℕ, _<_, _-_}
 use borrow.Author.Tests.{eqb-true, eqb-false, ltb-false, lt-ltb, ne-eqb}
 use lib.Dec.{eqb, ltb, ltb→lt}
 use lib.ListN.{length, getD, take, drop, length-take, length-drop}
-use mathlib.Core.Bool.{Bool, true, false, cond, _&&_, _||_, and-true}
+use mathlib.Core.Bool.{Bool, true, false, cond, _&&_, and-true}
 use mathlib.Core.List.{List, [], _∷_}
 use mathlib.Core.Path.{_≡_, refl, sym, ap}
 use native.Mathlib.Omega.{arith}
+use Rattle.laws.proofs.Cases.{neither}
 use Rattle.laws.proofs.Table.{below}
 use Rattle.refusal.specs.Numbers.{recordWrong, textIllFormed}
 use Rattle.sheet.proofs.RecordLaws.{Whole}
@@ -20,7 +21,6 @@ use Rattle.sheet.specs.Record.{Item, entry, bad, records, bodyLength}
 use Rattle.sheet.specs.TextState.{Texts, noTexts, textsAfter, allWell}
 use Rattle.sheet.specs.declared.judge.Judged.{Judged}
 use Rattle.sheet.specs.declared.judge.Judged.the-variants.{Sound, Refused}
-use Rattle.utf8.proofs.FirstLaws.{impossible}
 
 -- the number of the first bad record, else 17 where not all texts are well-formed
 abbrev pub verdict : ℕ → Bool → Judged
@@ -46,13 +46,9 @@ outside g h t (entry k body ∷ items) = go (eqb k 11) refl
 latest-below : (k : ℕ) → k < 10 → getD latest k 0 < 10
 latest-below k h = ltb→lt _ _ (below (λ j. ltb (getD latest j 0) 10) 10 tt k h)
 
-or-right : (a b : Bool) → (a || b) ≡ false → b ≡ false
-or-right true b h = impossible cc
-or-right false b h = h
-
 -- the group in hand after a kind below 10
 group-below : (g k : ℕ) → k < 10 → misplaced g k ≡ false → groupAfter g k < 10
-group-below g k h p = go (belongs k) (omega (arith, latest-below k h, ltb-false (getD latest k 0) g (or-right (ltb g (getD earliest k 0)) (ltb (getD latest k 0) g) p)))
+group-below g k h p = go (belongs k) (omega (arith, latest-below k h, ltb-false (getD latest k 0) g (neither (ltb g (getD earliest k 0)) (ltb (getD latest k 0) g) p .1)))
   where
     go : (u : Bool) → g < 10 → cond u g k < 10
     go true d = d

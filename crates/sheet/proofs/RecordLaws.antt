@@ -12,12 +12,12 @@ use mathlib.Core.Logic.{_⊎_, inl, inr}
 use mathlib.Core.Path.{_≡_, refl, ap, _∙_}
 use native.Mathlib.Numerals.{add-one}
 use native.Mathlib.Omega.{arith}
+use Rattle.laws.proofs.Cases.{impossible}
 use Rattle.laws.proofs.WalkLaws.{walk-more, walk-last}
 use Rattle.laws.specs.Walk.{last, walk}
 use Rattle.refusal.specs.Numbers.{recordCut, recordWrong}
 use Rattle.sheet.specs.Record.{bodyLength, unknownKind, Head, headOf, firstItem, records, placed, recordAt, whole, refused, none, entry, bad}
 use Rattle.sheet.specs.declared.record.RecordStep.the-variants.{Record, Refused, End}
-use Rattle.utf8.proofs.FirstLaws.{impossible}
 
 -- ---- the answers, from what the code tests
 

@@ -1,9 +1,11 @@
 -- What a file says of a voice, its samples aside.
 use Prim.Native.Nat.{ℕ}
 use mathlib.Core.List.{List}
-use mathlib.Core.Option.{Option}
+use mathlib.Core.Bool.{Bool, true, false}
+use mathlib.Core.Option.{Option, none, some}
 use Rattle.header.specs.declared.«voice_header».VoiceHeader.{VoiceHeader}
 use Rattle.small_chunks.specs.declared.channel.ChannelAssignment.{ChannelAssignment}
+use Rattle.small_chunks.specs.declared.channel.ChannelAssignment.the-variants.{Left, Right, Stereo}
 use Rattle.small_chunks.specs.declared.pan.Pan.{Pan}
 use Rattle.small_chunks.specs.declared.envelope.EgPoint.{EgPoint}
 use Rattle.small_chunks.specs.declared.sequence.SeqnSegment.{SeqnSegment}
@@ -24,3 +26,10 @@ pub record Voice : Type 0 where
   pub sequence : Option (List SeqnSegment)
   pub fade : Option Fade
   pub texts : List Text
+
+-- two channels, which CHAN alone says; without it there is one
+abbrev pub isStereo : Option ChannelAssignment → Bool
+isStereo none = false
+isStereo (some Left) = false
+isStereo (some Right) = false
+isStereo (some Stereo) = true

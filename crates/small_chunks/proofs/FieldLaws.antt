@@ -6,7 +6,7 @@
 -- Assumes nothing.
 use mathlib.Core.Path.{_≡_, ap, _∙_}
 use mathlib.Core.List.{List, _++_, append-assoc}
-use Prim.Native.Nat.{ℕ, _+_, _^_, _≤_, _<_}
+use Prim.Native.Nat.{ℕ, _+_, _-_, _^_, _≤_, _<_}
 use native.Mathlib.Omega.{arith}
 use lib.IntN.{ℤ}
 use lib.ListN.{length, take, drop, length-append, length-drop}
@@ -14,9 +14,10 @@ use lib.Seq.{take-add, drop-at}
 use mir.Syntax.{w32}
 use mir.Val.{SFits}
 use mir.Facts.{fits-ofZ}
-use Rattle.field.specs.BigEndian.{bigEndian, bigEndianBytes}
+use Rattle.laws.proofs.Prefix.{drop-take}
+use Rattle.field.specs.BigEndian.{bigEndian, bigEndianBytes, Bytes}
 use Rattle.field.specs.Signed.{signed32, bits32}
-use Rattle.field.proofs.BigEndianLaws.{Bytes, bytes-length, bytes-drop, number-back, number-bytes, number-fits}
+use Rattle.field.proofs.BigEndianLaws.{bytes-length, bytes-drop, number-back, number-bytes, number-fits, number-take}
 use Rattle.field.proofs.SignedLaws.{bits-are, signed-bits, bits-signed}
 use Rattle.small_chunks.specs.Envelope.{pointOf, pointBytes}
 use Rattle.small_chunks.specs.Pan.{panOf, panBytes}
@@ -95,6 +96,15 @@ pan-back p rest f = rw (signed-back (p .position) rest f)
 pub fade-back : (f : Fade) (rest : List ℕ) → f .segment < 2 ^ 32 → fadeOf (fadeBytes f ++ rest) ≡ f
 unfolding fadeOf fadeBytes
 fade-back f rest h = rw (number-back 4 (f .segment) rest h)
+
+-- ---- what lies past a field is not read
+
+pub point-take : (l : List ℕ) → pointOf (take 6 l) ≡ pointOf l
+unfolding pointOf
+point-take l =
+    let h₂ : 2 ≤ 6 = omega arith in
+    let h₄ : 4 ≤ 6 - 2 = omega arith in
+    rw (number-take 2 6 l h₂, drop-take 2 6 l, number-take 4 (6 - 2) (drop 2 l) h₄)
 
 -- ---- what was read writes back
 

@@ -1,11 +1,12 @@
 -- SEQN's segments, and FADE, which names one of them.
 use Prim.Native.Nat.{ℕ, _-_, _%_}
 use mathlib.Core.Bool.{Bool, _&&_, cond}
-use mathlib.Core.List.{List, _++_}
+use mathlib.Core.List.{List, _++_, map}
 use lib.Dec.{eqb, leb, ltb}
 use lib.ListN.{length, drop}
 use Rattle.refusal.specs.Numbers.{chunkLength, segment}
 use Rattle.field.specs.BigEndian.{bigEndian, bigEndianBytes}
+use Rattle.field.specs.Tagged.{parts}
 use Rattle.small_chunks.specs.declared.sequence.Fade.{Fade}
 use Rattle.small_chunks.specs.declared.sequence.SeqnSegment.{SeqnSegment}
 use Rattle.small_chunks.specs.declared.sequence.ParsedFade.{ParsedFade}
@@ -20,6 +21,10 @@ segmentOf l = record { start = bigEndian 4 l; end = bigEndian 4 (drop 4 l) }
 -- the eight bytes of a segment
 unfoldable pub segmentBytes : SeqnSegment → List ℕ
 segmentBytes s = bigEndianBytes 4 (s .start) ++ bigEndianBytes 4 (s .end)
+
+-- the segments of a SEQN
+abbrev pub sequenceSegments : List ℕ → List SeqnSegment
+sequenceSegments body = map segmentOf (parts 8 body)
 
 -- its samples: none where the end is not past the start
 abbrev pub segmentLength : SeqnSegment → ℕ

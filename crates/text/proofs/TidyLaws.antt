@@ -7,11 +7,11 @@ use mathlib.Core.Bool.{Bool, true, false, cond, not, _&&_, and-assoc}
 use mathlib.Core.List.{List, [], _∷_, _++_}
 use mathlib.Core.Logic.{_⊎_, inl, inr}
 use mathlib.Core.Path.{_≡_, refl, sym, ap, _∙_}
+use Rattle.laws.proofs.Cases.{impossible}
 use Rattle.laws.specs.Walk.{each}
 use Rattle.text.proofs.TrimLaws.{endWhite, trim-split, trim-subsequences}
 use Rattle.text.specs.Place.{startWhite}
 use Rattle.text.specs.Text.{beforeZero, isWhite, trimStart, isEmpty, trimEnd, trim, zeroFree, firstNotWhite, lastNotWhite, tidy}
-use Rattle.utf8.proofs.FirstLaws.{impossible}
 use Rattle.utf8.proofs.SubsequenceLaws.{subsequences-bytes}
 use Rattle.utf8.specs.Utf8.{Subsequence, scalar, illFormed, subsequences, bytes, replaced, lossy}
 

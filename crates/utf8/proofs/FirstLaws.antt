@@ -11,14 +11,11 @@ use mathlib.Core.List.{List, [], _∷_, _++_}
 use mathlib.Core.Option.{Option, none, some}
 use mathlib.Core.Path.{_≡_, refl, sym, _∙_}
 use native.Mathlib.Omega.{arith}
+use Rattle.laws.proofs.Cases.{impossible}
 use Rattle.laws.specs.Walk.{more, last}
 use Rattle.utf8.proofs.MatchingLaws.{matching-le}
 use Rattle.utf8.specs.Table.{Range, following}
 use Rattle.utf8.specs.Utf8.{matching, Subsequence, scalar, illFormed, fromLead, firstSubsequence, bytes}
-
--- what follows where two constructors, or true and false, would be equal
-pub impossible : {A : Type 0} → _≡_ {A = ℕ} 0 1 → A
-impossible z = absurd (omega arith)
 
 -- p is the first subsequence of its own bytes with r after them:
 -- no row begins with its one byte; or it ends before its row is complete; or its row is complete

@@ -9,9 +9,10 @@ use mathlib.Core.Bool.{Bool, true, false, cond}
 use mathlib.Core.List.{List, [], _∷_, _++_, map}
 use mathlib.Core.Path.{_≡_, refl, sym, ap, _∙_}
 use native.Mathlib.Omega.{arith}
+use Rattle.laws.proofs.Cases.{impossible}
 use Rattle.laws.proofs.WalkLaws.{walk-more}
 use Rattle.laws.specs.Walk.{Front, more, last, after, walk, each}
-use Rattle.utf8.proofs.FirstLaws.{impossible, IsFirst, noRow, partRow, fullRow, first-of, first-none, first-nil}
+use Rattle.utf8.proofs.FirstLaws.{IsFirst, noRow, partRow, fullRow, first-of, first-none, first-nil}
 use Rattle.utf8.specs.Table.{Range, within, following}
 use Rattle.utf8.specs.Utf8.{matching, Subsequence, scalar, illFormed, firstSubsequence, subsequences, bytes, replaced, lossy}
 

@@ -8,9 +8,9 @@ use mathlib.Core.Bool.{true, false}
 use mathlib.Core.List.{List, [], _∷_, map}
 use mathlib.Core.Option.{some}
 use mathlib.Core.Path.{_≡_, refl, sym, ap, _∙_}
+use Rattle.laws.proofs.Cases.{impossible}
 use Rattle.laws.specs.Walk.{each}
 use Rattle.utf8.proofs.FedLaws.{fed-subsequences}
-use Rattle.utf8.proofs.FirstLaws.{impossible}
 use Rattle.utf8.proofs.SubsequenceLaws.{consistent, subsequences-bytes, lossy-subsequences}
 use Rattle.utf8.specs.Feed.{complete, fedAll}
 use Rattle.utf8.specs.Utf8.{Subsequence, scalar, illFormed, subsequences, bytes, replaced, lossy, allWellFormed, wellFormed}

@@ -4,10 +4,9 @@
 use Prim.Native.Nat.{ℕ, _+_}
 use lib.Dec.{lit≤}
 use lib.ListN.{getD}
-use lib.Seq.{getD-drop}
-use mathlib.Core.List.{List, [], _∷_}
+use mathlib.Core.List.{[], _∷_}
 use mathlib.Core.Path.{_≡_, sym, ap, _∙_}
-use native.Mathlib.Nat.{add-zero, lt-of-lt-of-le}
+use native.Mathlib.Nat.{lt-of-lt-of-le}
 use native.Mathlib.Omega.{arith}
 use borrow.Author.Needs.{needs}
 use Rattle.small_chunks.specs.Channel.{channelOf, channelValueOf}
@@ -18,7 +17,7 @@ use Rattle.layout.specs.Answers.{channelAnswer}
 use Rattle.layout.specs.declared.MaybeChannel.the-variants.{Channel}
 use Rattle.layout.proofs.PartLaws.{fromPan}
 use Rattle.layout.proofs.SoundLaws.{sound-flat}
-use Rattle.layout.proofs.ThereLaws.{Present, channel-missing, channel-present}
+use Rattle.layout.proofs.ThereLaws.{Present, channel-missing, channel-present, channel-byte}
 use Rattle.layout.proofs.sheet_channel.Statement.{statement}
 use Rattle.layout.proofs.sheet_channel.Tie as tie
 
@@ -41,13 +40,7 @@ here c =
 parsed-here : (c : tie.Else1) →
     let a = c .before .before .before .args in
     channelOf (getD (a .sheet .now) (a .l .channel + 1) 0) ≡ Parsed (here c .value)
-parsed-here c =
-    let a = c .before .before .before .args in
-    let p = here c in
-    let at = a .l .channel + 1 in
-    let byte : getD (a .sheet .now) at 0 ≡ channelValueOf (p .value) =
-    ap (λ (i : ℕ). getD (a .sheet .now) i 0) (sym (add-zero at)) ∙ sym (getD-drop at (a .sheet .now) 0 0) ∙ ap (λ (l : List ℕ). getD l 0 0) (p .body) in
-    ap channelOf byte ∙ channel-back (p .value)
+parsed-here c = ap channelOf (channel-byte (here c)) ∙ channel-back (here c .value)
 
 add-body : tie.Need-add-body
 add-body c = let p = here c in omega arith

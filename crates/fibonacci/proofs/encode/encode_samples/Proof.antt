@@ -14,7 +14,7 @@ use Rattle.laws.specs.Buffer.{written}
 use Rattle.laws.proofs.Signed.{back}
 use Rattle.laws.proofs.Prefix.{prefix-whole}
 use Rattle.fibonacci.specs.Encode.{picks, packed, fibBytes}
-use Rattle.fibonacci.proofs.Least.{pick-below}
+use Rattle.fibonacci.proofs.PickLaws.{pick-below}
 use Rattle.fibonacci.proofs.EncodeLaws.{bytes-length, first-rest, first-two-stored, pair-left, pair-stored, last-stored}
 use Rattle.fibonacci.proofs.encode.encode_samples.Statement.{statement}
 use Rattle.fibonacci.proofs.encode.encode_samples.Tie as tie

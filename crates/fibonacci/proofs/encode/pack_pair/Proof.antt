@@ -6,7 +6,7 @@ use borrow.Author.Needs.{needs}
 use mir.Syntax.{w8}
 use mir.Facts.{toZ-ofZ}
 use Rattle.laws.proofs.Signed.{back}
-use Rattle.fibonacci.proofs.Least.{pick-below}
+use Rattle.fibonacci.proofs.PickLaws.{pick-below}
 use Rattle.fibonacci.proofs.encode.pack_pair.Statement.{statement}
 use Rattle.fibonacci.proofs.encode.pack_pair.Tie as tie
 

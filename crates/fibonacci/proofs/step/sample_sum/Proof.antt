@@ -1,4 +1,5 @@
--- `fib::add_brought` meets its contract. The sum is taken at 16 bits, where it fits; `bring` is known by `held` alone.
+-- The sum is taken at 16 bits, where it fits; `toSample` is known by `held` alone.
+-- Assumes nothing.
 use mathlib.Core.Path.{_≡_, _∙_}
 use lib.IntN.{_+ℤ_}
 use mir.Syntax.{w8, w16}

@@ -1,0 +1,4 @@
+-- Laws that the proofs cite.
+pub mod NibbleLaws
+pub mod InterleaveLaws
+pub mod BodyLaws

@@ -1,0 +1,2 @@
+-- The meaning of a whole BODY decoded.
+pub mod Body

@@ -1,0 +1,9 @@
+-- The demands proved, and the laws that they rest on.
+pub mod NumberLaws
+pub mod FirstNumbers
+pub mod DecodeNumbers
+pub mod ReadNumbers
+pub mod WriteNumbers
+pub mod Accepted
+pub mod Demand2
+pub mod Demand1

@@ -1,0 +1,3 @@
+-- What the library promises, a file for each demand.
+pub mod Demand1
+pub mod Demand2

@@ -1,0 +1,1 @@
+// The demands, as theorems about what the contracts cite: no code.

@@ -1,0 +1,2 @@
+-- The meaning of BODY written.
+pub mod BodyBytes

@@ -1,0 +1,2 @@
+-- The meaning of an envelope.
+pub mod Envelope

@@ -1,0 +1,27 @@
+// The level of an envelope at a time.
+use level::on_the_way;
+use small_chunks::EgPoint;
+ghost use mathlib.Core.Path.{_≡_};
+ghost use Rattle.small_chunks.specs.Envelope.{envelopePoints};
+ghost use Rattle.envelope.specs.Envelope.{levelAt};
+
+// The level t_ms milliseconds into an envelope that begins at `start`. Points are as ATAK and RLSE have them, six bytes each; a
+// remainder is ignored.
+pub fn level_at_ms(points: &[u8], start: i32, t_ms: u64) -> i32
+    ensures { λ r. ⌜ r ≡ levelAt (envelopePoints (now (points .entry))) start «t_ms» ⌝ }
+{
+    let mut level = start;
+    let mut left = t_ms;
+    let mut at = 0;
+    while 6 <= points.len() - at {
+        let p = EgPoint::read(points, at);
+        let duration = p.duration_ms as u64;
+        if left < duration {
+            return on_the_way(level, p.dest, left as u16, p.duration_ms);
+        }
+        level = p.dest;
+        left -= duration;
+        at += 6;
+    }
+    level
+}

@@ -1,0 +1,77 @@
+-- The nearer of the two, the lower where they are as near, and nibble 0 where that is held at -128.
+-- Assumes nothing.
+use mathlib.Core.Path.{_≡_, _∙_}
+use Prim.Native.Nat.{_-_}
+use native.Mathlib.Omega.{arith}
+use lib.IntN.{_-ℤ_}
+use mir.Syntax.{w8, w16}
+use mir.Val.{toZ, ofZ}
+use mir.Facts.{toZ-ofZ}
+use Rattle.laws.proofs.Signed.{zarith, back}
+use Rattle.fibonacci.specs.Step.{fibStep}
+use Rattle.fibonacci.proofs.PickLaws.{pick-above, pick-before, pick-held}
+use Rattle.fibonacci.proofs.pick.pick_of_two.Statement.{statement}
+use Rattle.fibonacci.proofs.pick.pick_of_two.Tie as tie
+
+sub-below : tie.Need-sub-below
+sub-below c = omega (arith, c .pre .some)
+
+fib-step-requires : tie.Need-fib-step-requires
+fib-step-requires c κs = c .pre .within
+
+fib-step-requires-2 : tie.Need-fib-step-requires-2
+fib-step-requires-2 c κs = omega (arith, c .before .pre .within)
+
+difference-requires : tie.Need-difference-requires
+difference-requires c κs = tt
+
+difference-requires-2 : tie.Need-difference-requires-2
+difference-requires-2 c κs = tt
+
+-- the two steps, and how far from the target each is
+module _ (c : tie.After-difference2) where
+  high-is : toZ w8 (ofZ w8 (c .before .before .before .fib-step .result)) ≡ fibStep (c .before .before .before .before .args .prev) (c .before .before .before .before .args .above)
+  high-is =
+      let s = c .before .before .before .before in
+      back w8 (c .before .before .before .fib-step .ok) ∙ rw (toZ-ofZ (s .fits .prev)) at (c .before .before .before .fib-step .ensures)
+
+  low-is : toZ w8 (ofZ w8 (c .before .before .fib-step2 .result)) ≡ fibStep (c .before .before .before .before .args .prev) (c .before .before .before .before .args .above - 1)
+  low-is =
+      let s = c .before .before .before .before in
+      back w8 (c .before .before .fib-step2 .ok) ∙ rw (toZ-ofZ (s .fits .prev)) at (c .before .before .fib-step2 .ensures)
+
+  over-is : toZ w16 (ofZ w16 (c .before .difference .result)) ≡ fibStep (c .before .before .before .before .args .prev) (c .before .before .before .before .args .above) -ℤ c .before .before .before .before .args .target
+  over-is = back w16 (c .before .difference .ok) ∙ rw (high-is, toZ-ofZ (c .before .before .before .before .fits .target)) at (c .before .difference .ensures)
+
+  under-is : toZ w16 (ofZ w16 (c .difference2 .result)) ≡ c .before .before .before .before .args .target -ℤ fibStep (c .before .before .before .before .args .prev) (c .before .before .before .before .args .above - 1)
+  under-is = back w16 (c .difference2 .ok) ∙ rw (low-is, toZ-ofZ (c .before .before .before .before .fits .target)) at (c .difference2 .ensures)
+
+returns : tie.Need-returns
+returns c =
+    let s = c .before .before .before .before .before in
+    pick-above (s .args .prev) (s .args .target) (s .fits .target) (s .args .above) (s .pre) (omega (zarith, over-is (c .before), under-is (c .before), c .if1 .taken))
+
+returns-2 : tie.Need-returns-2
+returns-2 c =
+    let d = c .before .before in
+    let s = d .before .before .before .before in
+    pick-before (s .args .prev) (s .args .target) (s .fits .target) (s .args .above) (s .pre) (omega (zarith, over-is d, under-is d, c .before .if1 .left)) (omega (zarith, low-is d, c .if2 .taken))
+
+returns-3 : tie.Need-returns-3
+returns-3 c =
+    let d = c .before .before in
+    let s = d .before .before .before .before in
+    pick-held (s .args .prev) (s .args .target) (s .fits .target) (s .args .above) (s .pre) (omega (zarith, over-is d, under-is d, c .before .if1 .left)) (omega (zarith, low-is d, c .if2 .left))
+
+pub pick-of-two-spec : {M : Type 1} → statement M
+pick-of-two-spec =
+    tie.close
+    (tie.spec
+    sub-below
+    fib-step-requires
+    fib-step-requires-2
+    difference-requires
+    difference-requires-2
+    returns
+    returns-2
+    returns-3)

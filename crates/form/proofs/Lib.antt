@@ -1,0 +1,3 @@
+-- The laws of a FORM's chunks.
+pub mod FormLaws
+pub mod Unknown

@@ -1,0 +1,67 @@
+-- The voice that a FORM's chunks say.
+use Prim.Native.Nat.{ℕ, zero, suc, _^_, _<_}
+use lib.ListN.{length}
+use mathlib.Core.Bool.{Bool, true, false}
+use mathlib.Core.List.{List, [], _∷_, _++_, map}
+use mathlib.Core.Option.{Option, none, some}
+use mathlib.Core.Path.{_≡_}
+use Rattle.field.specs.BigEndian.{bigEndian}
+use Rattle.header.specs.Header.{headerOf}
+use Rattle.small_chunks.specs.Channel.{channelOf}
+use Rattle.small_chunks.specs.Pan.{panOf}
+use Rattle.small_chunks.specs.Envelope.{envelopePoints}
+use Rattle.small_chunks.specs.Sequence.{sequenceSegments, fadeOf}
+use Rattle.small_chunks.specs.declared.channel.ChannelAssignment.{ChannelAssignment}
+use Rattle.chunk.specs.Chunk.{Item, chunk, bad, itemsFrom}
+use Rattle.form.specs.Names.{vhdr, chan, pan, atak, rlse, seqn, fade, name, auth, anno, copyright, chrs}
+use Rattle.form.specs.Kind.{placeIn}
+use Rattle.form.specs.FirstBad.{firstBad}
+use Rattle.form.specs.Find.{allOf, firstOf}
+use Rattle.text.specs.Text.{clean}
+use Rattle.sheet.specs.Voice.{Text, Voice}
+use Rattle.sheet.specs.Read.{mapOption, knownChannel, bodyOf}
+
+-- the assignment of a CHAN
+abbrev pub channelIn : Option (List ℕ) → Option ChannelAssignment
+channelIn none = none
+channelIn (some b) = knownChannel (channelOf (bigEndian 4 b))
+
+-- the key of a text chunk's name: title, artist, comment, copyright, characters are 1 to 5; 0 for any other name
+unfoldable pub textKey : ℕ → ℕ
+textKey id = placeIn 1 id (name ∷ auth ∷ anno ∷ copyright ∷ chrs ∷ [])
+
+-- a text, where the name is a text's and cleaning leaves something
+unfoldable pub textOf : ℕ → List ℕ → List Text
+textOf zero text = []
+textOf (suc k) [] = []
+textOf (suc k) (b ∷ bs) = record { key = suc k; bytes = b ∷ bs } ∷ []
+
+-- the texts in file order
+unfoldable pub textsOf : List Item → List Text
+textsOf [] = []
+textsOf (bad number ∷ items) = []
+textsOf (chunk id b ∷ items) = textOf (textKey id) (clean b) ++ textsOf items
+
+-- all of it
+unfoldable pub formVoice : List Item → Voice
+formVoice items = record {
+  header = headerOf (bodyOf (firstOf vhdr items));
+  channel = channelIn (firstOf chan items);
+  pan = mapOption panOf (firstOf pan items);
+  attacks = map envelopePoints (allOf atak items);
+  releases = map envelopePoints (allOf rlse items);
+  sequence = mapOption sequenceSegments (firstOf seqn items);
+  fade = mapOption fadeOf (firstOf fade items);
+  texts = textsOf items;
+}
+
+-- that there is one
+abbrev pub isThere : {A : Type 0} → Option A → Bool
+isThere none = false
+isThere (some a) = true
+
+-- a FORM that has no bad chunk and has a VHDR
+pub record Readable (f : List ℕ) : Type 0 where
+  pub sound : firstBad (itemsFrom f 12) ≡ 0
+  pub header : isThere (firstOf vhdr (itemsFrom f 12)) ≡ true
+  pub short : length f < 2 ^ 33

@@ -1,0 +1,3 @@
+-- The meaning of a FORM as a sheet.
+pub mod FormVoice
+pub mod Parts

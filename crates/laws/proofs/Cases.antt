@@ -1,0 +1,13 @@
+-- What a case that can't be says, and two tests of which neither holds.
+-- Assumes nothing.
+use Prim.Native.Nat.{ℕ}
+use mathlib.Core.Bool.{Bool, true, false, _||_, true≢false}
+use mathlib.Core.Path.{_≡_, refl}
+use native.Mathlib.Omega.{arith}
+
+pub impossible : {A : Type 0} → _≡_ {A = ℕ} 0 1 → A
+impossible z = absurd (omega arith)
+
+pub neither : (a b : Bool) → (a || b) ≡ false → (a ≡ false) × (b ≡ false)
+neither true b e = absurd (true≢false e)
+neither false b e = (refl, e)

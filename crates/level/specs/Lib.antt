@@ -1,0 +1,2 @@
+-- The meaning of levels.
+pub mod Level

@@ -1,0 +1,36 @@
+-- `octaves::side::side_part` meets its contract: what judging answers decides.
+-- Assumes nothing.
+use mathlib.Core.Path.{sym, ap, _∙_}
+use borrow.Author.Needs.{needs}
+use Rattle.sheet.specs.Read.{readSheet}
+use Rattle.octaves.specs.Side.{voiceSide, ifSound}
+use Rattle.octaves.proofs.side.side_part.Statement.{statement}
+use Rattle.octaves.proofs.side.side_part.Tie as tie
+
+judge-sheet-requires : tie.Need-judge-sheet-requires
+judge-sheet-requires c κs = search needs
+
+enum-told : tie.Need-enum-told
+enum-told c = search needs
+
+enum-told-2 : tie.Need-enum-told-2
+enum-told-2 c = search needs
+
+sound-side-requires : tie.Need-sound-side-requires
+sound-side-requires c κs = sym (c .before .before .judge-sheet .ensures) ∙ c .enum-told2 .given .1
+
+returns : tie.Need-returns
+returns c =
+    let a = c .before .before .before .before .args in
+    sym (ap (λ j. ifSound j (voiceSide (readSheet (a .sheet .now)) (a .side) (a .places))) (sym (c .before .before .judge-sheet .ensures) ∙ c .enum-told .given .1))
+
+returns-2 : tie.Need-returns-2
+returns-2 c =
+    let a = c .before .before .before .before .before .args in
+    c .sound-side .ensures
+    ∙ sym (ap (λ j. ifSound j (voiceSide (readSheet (a .sheet .now)) (a .side) (a .places))) (sym (c .before .before .before .judge-sheet .ensures) ∙ c .before .enum-told2 .given .1))
+
+pub side-part-spec : {M : Type 1} → statement M
+side-part-spec =
+    tie.close
+    (tie.spec judge-sheet-requires enum-told enum-told-2 sound-side-requires returns returns-2)

@@ -1,0 +1,31 @@
+// Replays a fixed list of files and voices, and prints what the library makes of each. The list and the answers that are to come out
+// were written by tools/compare, which took the answers from the original Rust module: `compare list crates/replay`.
+mod input;
+mod print;
+mod read_case;
+mod write_case;
+
+// One case; whether there was one.
+fn case() -> bool {
+    let op = input::byte();
+    if op == 1 {
+        read_case::run();
+        return true;
+    }
+    if op == 2 {
+        write_case::run();
+        return true;
+    }
+    false
+}
+
+fn main() {
+    let mut i: usize = 0;
+    while i < 100000 {
+        let more = case();
+        if !more {
+            return;
+        }
+        i += 1;
+    }
+}

@@ -1,0 +1,1 @@
+// What is written is read again: no code, the theorem stands in proofs/.

@@ -1,0 +1,3 @@
+-- The meaning of a sheet as chunks.
+pub mod VoiceChunks
+pub mod RecordChunks

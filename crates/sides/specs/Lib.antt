@@ -1,0 +1,3 @@
+-- The meaning of a voice's sides.
+pub mod Sides
+pub mod Answers

@@ -1,0 +1,24 @@
+-- `svx::codec::svx_fibonacci_decode_channel` meets its contract: the decoder's answer handed over.
+-- Assumes nothing.
+use borrow.Author.Needs.{needs}
+use Rattle.svx.proofs.codec.svx_fibonacci_decode_channel.Statement.{statement}
+use Rattle.svx.proofs.codec.svx_fibonacci_decode_channel.Tie as tie
+
+fibonacci-decode-channel-requires : tie.Need-fibonacci-decode-channel-requires
+fibonacci-decode-channel-requires c κs = search needs
+
+hand-length-requires : tie.Need-hand-length-requires
+hand-length-requires c κs = search needs
+
+same-length : tie.Need-same-length
+same-length c = search needs
+
+returns : tie.Need-returns
+returns c =
+    let e = c .before .before .before .fibonacci-decode-channel .ensures in
+    let h = rw (e .0) at (c .hand-length .ensures) in
+    (h .0, (h .1, e .1))
+
+pub svx-fibonacci-decode-channel-spec : {M : Type 1} → statement M
+svx-fibonacci-decode-channel-spec =
+    tie.close (tie.spec fibonacci-decode-channel-requires hand-length-requires same-length returns)

@@ -1,0 +1,3 @@
+-- The meaning of the C interface.
+pub mod Answers
+pub mod Shapes

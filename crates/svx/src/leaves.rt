@@ -1,0 +1,105 @@
+// Frequency, pan, volume, peak and level.
+use header::Frequency;
+use header::VoiceHeader;
+use samples::Loudest;
+use samples::peak;
+use small_chunks::Pan;
+ghost use mathlib.Core.Path.{_≡_};
+ghost use Rattle.envelope.specs.Envelope.{levelAt};
+ghost use Rattle.header.specs.Frequency.{cycleFrequency};
+ghost use Rattle.small_chunks.specs.Envelope.{envelopePoints};
+ghost use Rattle.volume.specs.Volume.{volumeFloat};
+ghost use Rattle.svx.specs.Shapes.{frequencyOf, weightsAt, PeakShape};
+
+// Where it isn't known, hertz is 0.
+#[repr(C)]
+pub struct SvxFrequency {
+    pub known: bool,
+    pub hertz: f64,
+}
+
+#[repr(C)]
+pub struct SvxPan {
+    pub left: f32,
+    pub right: f32,
+}
+
+// Where there is no sample, the rest is 0.
+#[repr(C)]
+pub struct SvxPeak {
+    pub found: bool,
+    pub magnitude: u8,
+    pub place: u64,
+}
+
+fn header_with(rate: u16, samples_per_cycle: u32) -> VoiceHeader
+    ensures { λ r. ⌜ (r .«samples_per_sec» ≡ rate) × (r .«samples_per_hi_cycle» ≡ «samples_per_cycle») ⌝ }
+{
+    VoiceHeader {
+        one_shot_hi_samples: 0,
+        repeat_hi_samples: 0,
+        samples_per_hi_cycle: samples_per_cycle,
+        samples_per_sec: rate,
+        ct_octave: 0,
+        compression_byte: 0,
+        volume: 0,
+    }
+}
+
+#[no_mangle]
+pub extern "C" fn svx_hi_cycle_frequency_hz(rate: u16, samples_per_cycle: u32) -> SvxFrequency
+    ensures { λ r. ⌜ r ≡ frequencyOf (cycleFrequency rate «samples_per_cycle») ⌝ }
+{
+    let h = header_with(rate, samples_per_cycle);
+    match h.hi_cycle_frequency_hz() {
+        Frequency::Known(hertz) => SvxFrequency { known: true, hertz },
+        Frequency::Unknown => SvxFrequency {
+            known: false,
+            hertz: 0.0,
+        },
+    }
+}
+
+#[no_mangle]
+pub extern "C" fn svx_pan_weights(position: i32) -> SvxPan
+    ensures { λ r. ⌜ r ≡ weightsAt position ⌝ }
+{
+    let pan = Pan { position };
+    let w = pan.weights();
+    SvxPan {
+        left: w.left,
+        right: w.right,
+    }
+}
+
+#[no_mangle]
+pub extern "C" fn svx_volume_f32(volume: u32) -> f32
+    ensures { λ r. ⌜ r ≡ volumeFloat volume ⌝ }
+{
+    volume::volume_f32(volume)
+}
+
+#[no_mangle]
+pub extern "C" fn svx_peak(samples: &[i8]) -> SvxPeak
+    ensures { λ r. ⌜ PeakShape (now (samples .entry)) r ⌝ }
+{
+    match peak(samples) {
+        Loudest::Empty => SvxPeak {
+            found: false,
+            magnitude: 0,
+            place: 0,
+        },
+        Loudest::At(magnitude, place) => SvxPeak {
+            found: true,
+            magnitude,
+            place: place as u64,
+        },
+    }
+}
+
+#[no_mangle]
+pub extern "C" fn svx_level_at_ms(points: &[u8], start: i32, t_ms: u64) -> i32
+    ensures { λ r. ⌜ r ≡ levelAt (envelopePoints (now (points .entry))) start «t_ms» ⌝ }
+{
+    envelope::level_at_ms(points, start, t_ms)
+}

@@ -1,0 +1,31 @@
+// The C interface. Each function hands its arguments to one entry of the library and its answer back: 0, or the refusal's number,
+// with lengths written where the call was accepted and left alone where it was refused.
+mod codec;
+mod hand;
+mod leaves;
+mod parts;
+mod sheet_walk;
+mod voice;
+
+pub use codec::svx_decode_body;
+pub use codec::svx_fibonacci_decode_channel;
+pub use codec::svx_fibonacci_encode_channel;
+pub use leaves::SvxFrequency;
+pub use leaves::SvxPan;
+pub use leaves::SvxPeak;
+pub use leaves::svx_hi_cycle_frequency_hz;
+pub use leaves::svx_level_at_ms;
+pub use leaves::svx_pan_weights;
+pub use leaves::svx_peak;
+pub use leaves::svx_volume_f32;
+pub use parts::SvxPart;
+pub use parts::svx_loop_repeat;
+pub use parts::svx_octave_samples;
+pub use parts::svx_side_samples;
+pub use sheet_walk::SvxRecord;
+pub use sheet_walk::svx_sheet_judge;
+pub use sheet_walk::svx_sheet_record;
+pub use voice::svx_encode_voice;
+pub use voice::svx_file_length;
+pub use voice::svx_parse_voice;
+pub use voice::svx_voice_lengths;

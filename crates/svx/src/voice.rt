@@ -1,0 +1,68 @@
+// Files read and written.
+use crate::hand::hand_length;
+use crate::hand::hand_lengths;
+use voice_read::parse_voice;
+use voice_read::voice_lengths;
+use voice_write::encode_voice;
+use voice_write::file_length;
+ghost use mathlib.Core.Path.{_≡_};
+ghost use lib.ListN.{length};
+ghost use Rattle.refusal.specs.Outcome.{answer, bufferAfter};
+ghost use Rattle.sheet.specs.Flat.{flat};
+ghost use Rattle.voice_read.specs.Parsed.{neededBy, answerOf, after};
+ghost use Rattle.voice_read.specs.ReadVoice.{readVoice};
+ghost use Rattle.voice_write.specs.Answers.{lengthOf};
+ghost use Rattle.voice_write.specs.WriteVoice.{writeSheet};
+ghost use Rattle.svx.specs.Answers.{parsedNumber, parsedLengths, outputNumber, outputLength};
+
+#[no_mangle]
+pub extern "C" fn svx_voice_lengths(file: &[u8], lengths: &mut [u64; 3]) -> u32
+    ensures result { λ r. ⌜ r ≡ parsedNumber (neededBy (readVoice (now (file .entry)))) ⌝ }
+    ensures lengths { λ _. ⌜ now (lengths .exit) ≡ parsedLengths (neededBy (readVoice (now (file .entry)))) (now (lengths .entry)) ⌝ }
+{
+    let parsed = voice_lengths(file);
+    hand_lengths(parsed, lengths)
+}
+
+#[no_mangle]
+pub extern "C" fn svx_parse_voice(
+    file: &[u8],
+    sheet: &mut [u8],
+    left: &mut [i8],
+    right: &mut [i8],
+    lengths: &mut [u64; 3],
+) -> u32
+    ensures result { λ r. ⌜ r ≡ parsedNumber (answerOf (readVoice (now (file .entry))) (length (now (sheet .entry))) (length (now (left .entry))) (length (now (right .entry)))) ⌝ }
+    ensures lengths { λ _. ⌜ now (lengths .exit) ≡ parsedLengths (answerOf (readVoice (now (file .entry))) (length (now (sheet .entry))) (length (now (left .entry))) (length (now (right .entry)))) (now (lengths .entry)) ⌝ }
+    ensures sheet { λ _. ⌜ now (sheet .exit) ≡ after (λ x. flat (x .voice)) (readVoice (now (file .entry))) (length (now (sheet .entry))) (length (now (left .entry))) (length (now (right .entry))) (now (sheet .entry)) ⌝ }
+    ensures left { λ _. ⌜ now (left .exit) ≡ after (λ x. x .sides .left) (readVoice (now (file .entry))) (length (now (sheet .entry))) (length (now (left .entry))) (length (now (right .entry))) (now (left .entry)) ⌝ }
+    ensures right { λ _. ⌜ now (right .exit) ≡ after (λ x. x .sides .right) (readVoice (now (file .entry))) (length (now (sheet .entry))) (length (now (left .entry))) (length (now (right .entry))) (now (right .entry)) ⌝ }
+{
+    let parsed = parse_voice(file, sheet, left, right);
+    hand_lengths(parsed, lengths)
+}
+
+#[no_mangle]
+pub extern "C" fn svx_file_length(sheet: &[u8], left: &[i8], right: &[i8], count: &mut u64) -> u32
+    ensures result { λ r. ⌜ r ≡ outputNumber (lengthOf (writeSheet (now (sheet .entry)) (record { left = now (left .entry); right = now (right .entry) }))) ⌝ }
+    ensures count { λ _. ⌜ now (count .exit) ≡ outputLength (lengthOf (writeSheet (now (sheet .entry)) (record { left = now (left .entry); right = now (right .entry) }))) (now (count .entry)) ⌝ }
+{
+    let output = file_length(sheet, left, right);
+    hand_length(output, count)
+}
+
+#[no_mangle]
+pub extern "C" fn svx_encode_voice(
+    sheet: &[u8],
+    left: &[i8],
+    right: &[i8],
+    file: &mut [u8],
+    count: &mut u64,
+) -> u32
+    ensures result { λ r. ⌜ r ≡ outputNumber (answer (writeSheet (now (sheet .entry)) (record { left = now (left .entry); right = now (right .entry) })) (length (now (file .entry)))) ⌝ }
+    ensures count { λ _. ⌜ now (count .exit) ≡ outputLength (answer (writeSheet (now (sheet .entry)) (record { left = now (left .entry); right = now (right .entry) })) (length (now (file .entry)))) (now (count .entry)) ⌝ }
+    ensures buffer { λ _. ⌜ now (file .exit) ≡ bufferAfter (writeSheet (now (sheet .entry)) (record { left = now (left .entry); right = now (right .entry) })) (now (file .entry)) ⌝ }
+{
+    let output = encode_voice(sheet, left, right, file);
+    hand_length(output, count)
+}

@@ -1,0 +1,68 @@
+-- `voice_read::chunks::write_outputs` meets its contract: the sheet is stored from the front on, and the sides are those of the FORM.
+-- Assumes nothing.
+use borrow.Author.Needs.{needs}
+use denote.Ref.{now}
+use mathlib.Core.Path.{_≡_}
+use Rattle.chunk.specs.Chunk.{itemsFrom}
+use Rattle.form.specs.Find.{firstOf}
+use Rattle.form.specs.Names.{body}
+use Rattle.form_sheet.specs.FormVoice.{formVoice}
+use Rattle.sheet.specs.Read.{bodyOf}
+use Rattle.sheet.specs.Voice.{isStereo}
+use Rattle.sides.specs.Sides.{bodySides}
+use Rattle.voice_read.proofs.AnswerLaws.{put-front}
+use Rattle.voice_read.proofs.chunks.write_outputs.Statement.{statement}
+use Rattle.voice_read.proofs.chunks.write_outputs.Tie as tie
+
+-- the sides, by what was read of the FORM
+sides-are : (c : tie.After-body-of) → let f = now (c .before .before .before .before .before .before .before .before .before .args .form) in
+    bodySides (c .before .before .header-of .result) (c .before .is-stereo .result) (now (c .body-of .result)) ≡ bodySides (formVoice (itemsFrom f 12) .header) (isStereo (formVoice (itemsFrom f 12) .channel)) (bodyOf (firstOf body (itemsFrom f 12)))
+sides-are c = rw (c .before .before .header-of .ensures, c .before .is-stereo .ensures, c .body-of .ensures)
+
+put-sheet-requires : tie.Need-put-sheet-requires
+put-sheet-requires c κs = search needs
+
+header-of-requires : tie.Need-header-of-requires
+header-of-requires c κs = search needs
+
+is-stereo-requires : tie.Need-is-stereo-requires
+is-stereo-requires c κs = search needs
+
+body-of-requires : tie.Need-body-of-requires
+body-of-requires c κs = search needs
+
+decode-sides-requires : tie.Need-decode-sides-requires
+decode-sides-requires c κs =
+    let s = c .before .before in
+    rw (sides-are s) (s .before .before .before .before .before .before .before .before .before .pre .2)
+
+same-length : tie.Need-same-length
+same-length c = search needs
+
+same-length-2 : tie.Need-same-length-2
+same-length-2 c = search needs
+
+same-length-3 : tie.Need-same-length-3
+same-length-3 c = search needs
+
+returns : tie.Need-returns
+returns c =
+    let d = c .before .before in
+    let s = d .before .before .before in
+    let p = s .before .before .before .before .before in
+    let start = p .before .before .before .before in
+    (put-front (start .pre .1) (p .put-sheet .ensures), rw (sides-are s) at (d .decode-sides .ensures))
+
+pub write-outputs-spec : {M : Type 1} → statement M
+write-outputs-spec =
+    tie.close
+    (tie.spec
+    put-sheet-requires
+    header-of-requires
+    is-stereo-requires
+    body-of-requires
+    decode-sides-requires
+    same-length
+    same-length-2
+    same-length-3
+    returns)

@@ -1,0 +1,3 @@
+-- The meaning of reading a file.
+pub mod ReadVoice
+pub mod Parsed

@@ -1,0 +1,145 @@
+/* Falkhubed: FORM 8SVX voices. Link with libsvx.a.
+ *
+ * A slice is a pointer and then a length; an empty slice may have any pointer, NULL too. Pointers are aligned for their elements, and
+ * lent buffers don't overlap. A bool is 0 or 1; padding in a struct is unspecified.
+ *
+ * A function that can be refused returns 0 or the refusal's number. A refused call writes nothing: no buffer, and no place for a
+ * length. Of an accepted one, what lies past the output in a buffer is kept.
+ *
+ *  1 file under 12 bytes             8 no VHDR                              15 sheet ends inside a record
+ *  2 no FORM                         9 no BODY                              16 sheet kind, order or value wrong, or no header
+ *  3 form type not 8SVX             10 compression above 1                  17 text not UTF-8
+ *  4 chunk runs past the FORM       11 Fibonacci BODY of two channels has   18 sample lengths don't suit the sheet
+ *  5 second VHDR, CHAN, PAN, SEQN,     an odd length                        19 FORM length over 4,294,967,295
+ *    FADE or BODY                   12 Fibonacci channel under 2 bytes      20 output buffer too short
+ *  6 chunk length wrong             13 octave total over 2^64 - 1
+ *  7 CHAN not 2, 4 or 6             14 channel shorter than its octaves
+ */
+#ifndef SVX_H
+#define SVX_H
+
+#include <stdbool.h>
+#include <stddef.h>
+#include <stdint.h>
+
+#ifdef __cplusplus
+extern "C" {
+#endif
+
+/* Files. A voice is its sheet (header, channel, pan, envelopes, sequence, fade and texts as records) and the samples of its left and
+ * right side; one channel has its samples at left. */
+
+/* The lengths that reading a file needs: sheet, left, right.
+ * Refused as reading is (1 to 14), but never by 20. */
+uint32_t svx_voice_lengths(const uint8_t *file, size_t file_len, uint64_t lengths[3]);
+
+/* Reads a file into three lent buffers and gives their lengths; if one is too short, none is written.
+ * Refused by 1 to 14, then 20. */
+uint32_t svx_parse_voice(const uint8_t *file, size_t file_len, uint8_t *sheet, size_t sheet_len, int8_t *left, size_t left_len,
+                         int8_t *right, size_t right_len, uint64_t lengths[3]);
+
+/* The length that writing a file needs.
+ * Refused as writing is, but never by 20. */
+uint32_t svx_file_length(const uint8_t *sheet, size_t sheet_len, const int8_t *left, size_t left_len, const int8_t *right,
+                         size_t right_len, uint64_t *length);
+
+/* Writes the file of a voice and gives its length.
+ * Refused by 15 to 17, then 10, 13, 18, 19, 20 in that order. */
+uint32_t svx_encode_voice(const uint8_t *sheet, size_t sheet_len, const int8_t *left, size_t left_len, const int8_t *right,
+                          size_t right_len, uint8_t *file, size_t file_len, uint64_t *length);
+
+/* BODY and its channels. */
+
+/* BODY as interleaved bytes, at most so many frames of each channel; 0 channels count as 1, more than 2 as 2.
+ * The compression is the header's byte. Refused by 10, 11, 12, 20. */
+uint32_t svx_decode_body(const uint8_t *body, size_t body_len, uint8_t compression, uint16_t channels, uint64_t frames, uint8_t *out,
+                         size_t out_len, uint64_t *length);
+
+/* The samples of a Fibonacci channel.
+ * Refused by 12, 20. */
+uint32_t svx_fibonacci_decode_channel(const uint8_t *body, size_t body_len, int8_t *out, size_t out_len, uint64_t *length);
+
+/* A channel's samples as Fibonacci bytes.
+ * Refused by 20. */
+uint32_t svx_fibonacci_encode_channel(const int8_t *samples, size_t samples_len, uint8_t *out, size_t out_len, uint64_t *length);
+
+/* The sheet. */
+
+/* step: 0 a record, 1 the end, 2 refused by 15, 3 refused by 16; the rest is 0 unless step is 0.
+ * start is the place of the record's body, next the place past it. */
+typedef struct {
+    uint8_t step;
+    uint8_t kind;
+    uint64_t start;
+    uint64_t next;
+} SvxRecord;
+
+/* The record at a place of a sheet; a place past the end is the end.
+ * It judges neither order nor values. */
+SvxRecord svx_sheet_record(const uint8_t *sheet, size_t sheet_len, uint64_t at);
+
+/* Judges a whole sheet: 0 where it is a voice's.
+ * Else 15, 16 or 17. */
+uint32_t svx_sheet_judge(const uint8_t *sheet, size_t sheet_len);
+
+/* Leaves. Where nothing is known, found or there, the other fields are 0. */
+
+typedef struct {
+    bool known;
+    double hertz;
+} SvxFrequency;
+
+typedef struct {
+    float left;
+    float right;
+} SvxPan;
+
+typedef struct {
+    bool found;
+    uint8_t magnitude;
+    uint64_t place;
+} SvxPeak;
+
+typedef struct {
+    bool there;
+    uint64_t start;
+    uint64_t length;
+} SvxPart;
+
+/* The highest octave's cycle frequency, rate over samples per cycle.
+ * Unknown where either is 0. */
+SvxFrequency svx_hi_cycle_frequency_hz(uint16_t rate, uint32_t samples_per_cycle);
+
+/* Both speakers' weights of a PAN position, 0 right to 65,536 left.
+ * Together they are 1. */
+SvxPan svx_pan_weights(int32_t position);
+
+/* A 16.16 volume as a float: 65,536 is 1.0.
+ * It isn't clamped. */
+float svx_volume_f32(uint32_t volume);
+
+/* The largest magnitude of samples and a place that has it.
+ * -128 counts as 128; which of equal places is free. */
+SvxPeak svx_peak(const int8_t *samples, size_t samples_len);
+
+/* The level of an envelope t_ms milliseconds in, begun at `start`.
+ * Points have 6 bytes as in ATAK; a remainder is ignored. */
+int32_t svx_level_at_ms(const uint8_t *points, size_t points_len, int32_t start, uint64_t t_ms);
+
+/* The length of octave k; start is always 0. With `repeat` 0 it is the one-shot part's length, with `one_shot` 0 the repeat part's.
+ * Not there from k = 64 or the number of octaves on; bits past 64 are dropped. */
+SvxPart svx_octave_samples(uint32_t one_shot, uint32_t repeat, uint8_t octaves, uint8_t k);
+
+/* The repeat part of an octave k of that length; the one-shot part is places 0 to start.
+ * Not there where the two parts by the header don't make up the octave. */
+SvxPart svx_loop_repeat(uint32_t one_shot, uint32_t repeat, uint8_t octaves, uint8_t k, uint64_t octave_len);
+
+/* The part of a side's buffer that holds its samples, given both buffers' lengths.
+ * Not there where the sheet is refused, one channel has no right side, or the buffer is too short. */
+SvxPart svx_side_samples(const uint8_t *sheet, size_t sheet_len, uint64_t left_len, uint64_t right_len, bool right);
+
+#ifdef __cplusplus
+}
+#endif
+
+#endif

@@ -1,0 +1,99 @@
+//! The fixed list: inputs and the original's answers, replayed by the gate's program `replay`.
+//!
+//! FOLDER/stdin has the cases. A case is a byte (1 reading, 2 writing, 0 the end) and its slices, each with its length in four bytes,
+//! big-endian: the file; or sheet, left and right. FOLDER/stdout has a line for each: the refusal's number, or the outputs in
+//! hexadecimal.
+use crate::{encode, make, parse, rust_side};
+use std::fmt::Write;
+
+fn slice(out: &mut Vec<u8>, s: &[u8]) {
+    out.extend((s.len() as u32).to_be_bytes());
+    out.extend(s);
+}
+
+fn bytes(s: &[i8]) -> Vec<u8> { s.iter().map(|x| *x as u8).collect() }
+
+fn hex(line: &mut String, s: &[u8]) {
+    line.push(' ');
+    for b in s { write!(line, "{b:02x}").unwrap(); }
+    line.push('.');
+}
+
+struct List { cases: Vec<u8>, answers: String, counts: [u32; 21] }
+
+impl List {
+    fn refused(&mut self, n: u32) {
+        self.counts[n as usize] += 1;
+        writeln!(self.answers, "{n}").unwrap();
+    }
+
+    fn reading(&mut self, file: &[u8]) {
+        self.cases.push(1);
+        slice(&mut self.cases, file);
+        match parse::original(file) {
+            Err(n) => self.refused(n),
+            Ok((s, l, r)) => {
+                self.counts[0] += 1;
+                let mut line = String::from("voice");
+                hex(&mut line, &s);
+                hex(&mut line, &bytes(&l));
+                hex(&mut line, &bytes(&r));
+                writeln!(self.answers, "{line}").unwrap();
+            }
+        }
+    }
+
+    fn writing(&mut self, v: &oracle::svx::Voice) {
+        let (s, l, r) = encode::flat(v);
+        self.cases.push(2);
+        slice(&mut self.cases, &s);
+        slice(&mut self.cases, &bytes(&l));
+        slice(&mut self.cases, &bytes(&r));
+        match rust_side::encode(v) {
+            Err(n) => self.refused(n),
+            Ok(file) => {
+                self.counts[0] += 1;
+                let mut line = String::from("file");
+                hex(&mut line, &file);
+                writeln!(self.answers, "{line}").unwrap();
+            }
+        }
+    }
+}
+
+/// The specification's whole example: one sample, -2.
+const EXAMPLE: [u8; 50] = [
+    0x46, 0x4F, 0x52, 0x4D, 0, 0, 0, 0x2A, 0x38, 0x53, 0x56, 0x58, 0x56, 0x48, 0x44, 0x52, 0, 0, 0, 0x14, 0, 0, 0, 1, 0, 0, 0, 0, 0, 0, 0, 0, 0x1F, 0x40, 1,
+    0, 0, 1, 0, 0, 0x42, 0x4F, 0x44, 0x59, 0, 0, 0, 1, 0xFE, 0,
+];
+
+pub fn run(folder: &str) {
+    let mut list = List { cases: Vec::new(), answers: String::new(), counts: [0; 21] };
+    list.reading(&EXAMPLE);
+    for n in [0, 11, 12, 39, 40, 48, 49] { list.reading(&EXAMPLE[..n]); }
+    let mut r = make::Rng::new(20261115);
+    // as many of each refusal as come, up to so many, and accepted files
+    let mut room = [14u32; 21];
+    room[0] = 120;
+    while room[..15].iter().any(|n| *n > 0) {
+        let file = make::file(&mut r);
+        let k = parse::original(&file).map_or_else(|n| n as usize, |_| 0);
+        if room[k] == 0 || file.len() > 400 { continue; }
+        room[k] -= 1;
+        list.reading(&file);
+    }
+    let mut left = 80;
+    while left > 0 {
+        let v = make::voice(&mut r);
+        if !encode::sayable(&v) || rust_side::flat(&v).len() > 300 || rust_side::side(&v, 0).len() > 200 { continue; }
+        // a total past 64 bits has a number of its own here and none in the original
+        if v.header.total_samples_per_channel().is_none() { continue; }
+        list.writing(&v);
+        left -= 1;
+    }
+    list.cases.push(0);
+    let cases = list.answers.lines().count();
+    std::fs::write(format!("{folder}/stdin"), &list.cases).expect("written");
+    std::fs::write(format!("{folder}/stdout"), &list.answers).expect("written");
+    println!("{cases} cases; accepted and refused by number: {:?}", list.counts);
+}

@@ -1,0 +1,108 @@
+//! What stands beside reading and writing: both codecs, a whole BODY, octaves, loops, levels, pan, volume and frequency.
+use crate::{abi, make};
+use oracle::svx::{self, ChannelSamples, EgPoint, Envelope, Pan, VoiceHeader};
+use oracle::svx_open;
+
+fn fibonacci(r: &mut make::Rng) {
+    let n = r.below(40) as usize;
+    let body = r.bytes(n);
+    let want = svx::fibonacci_decode_channel(&body).map_err(|_| 12);
+    let mut out = vec![0x5Ai8; 2 * n + 4];
+    let got = abi::fibonacci_decode_channel(&body, &mut out).map(|k| out[..k].to_vec());
+    assert_eq!(got, want, "decoding {body:02X?}");
+    let kept = want.map_or(0, |w| w.len());
+    assert!(out[kept..].iter().all(|x| *x == 0x5A), "past the output");
+    let samples = r.samples(n);
+    let want = svx::fibonacci_encode_channel(&samples);
+    let mut out = vec![0xA5u8; n + 4];
+    let got = abi::fibonacci_encode_channel(&samples, &mut out);
+    assert_eq!(got, Ok(want.len()), "encoding {samples:?}");
+    assert!(out.starts_with(&want) && out[want.len()..].iter().all(|x| *x == 0xA5), "encoding {samples:?}");
+}
+
+fn whole_body(r: &mut make::Rng) {
+    let n = r.below(40) as usize;
+    let body = r.bytes(n);
+    let compression = if r.once(9) { r.next() as u8 } else { r.below(2) as u8 };
+    let (channels, frames) = (r.below(4) as u16, r.below(60) as usize);
+    let want = svx_open::oracle_decode_body(&body, compression, channels, frames).map_err(|e| crate::rust_side::number(&e.message()));
+    let mut out = vec![0xA5u8; 200];
+    let got = abi::decode_body(&body, compression, channels, frames as u64, &mut out).map(|k| out[..k].to_vec());
+    assert_eq!(got, want, "decode_body {compression} {channels} {frames} {body:02X?}");
+    if let Ok(w) = want {
+        if !w.is_empty() {
+            let mut short = vec![0xA5u8; w.len() - 1];
+            assert_eq!(abi::decode_body(&body, compression, channels, frames as u64, &mut short), Err(20));
+            assert!(short.iter().all(|x| *x == 0xA5), "a refused call wrote");
+        }
+    }
+}
+
+fn count(p: abi::Part) -> Option<u64> {
+    if p.there { assert_eq!(p.start, 0); Some(p.length) } else { assert_eq!((p.start, p.length), (0, 0)); None }
+}
+
+fn octaves(r: &mut make::Rng) {
+    let h = make::header(r);
+    let h = VoiceHeader { one_shot_hi_samples: if r.once(3) { 1 << r.below(32) } else { h.one_shot_hi_samples }, ..h };
+    let k = if r.once(4) { r.next() as u8 } else { r.below(70) as u8 };
+    let (a, b, c) = (h.one_shot_hi_samples, h.repeat_hi_samples, h.ct_octave);
+    assert_eq!(count(abi::octave_samples(a, b, c, k)), h.octave_samples(k), "octave_samples {h:?} {k}");
+    assert_eq!(count(abi::octave_samples(a, 0, c, k)), h.one_shot_samples(k), "one_shot_samples {h:?} {k}");
+    assert_eq!(count(abi::octave_samples(0, b, c, k)), h.repeat_samples(k), "repeat_samples {h:?} {k}");
+    // an octave of the header's length, or another; the original looks it up by k, so k octaves stand before it
+    let n = match h.octave_samples(k) {
+        Some(n) if n < 200 && !r.once(5) => n as usize,
+        _ => r.below(6) as usize,
+    };
+    let mut list = vec![Vec::new(); k as usize];
+    list.push(vec![0i8; n]);
+    let want = ChannelSamples { octaves: list }.loop_split(&h, k).map(|(x, y)| (x.len() as u64, y.len() as u64));
+    let p = abi::loop_repeat(a, b, c, k, n as u64);
+    let got = if p.there { Some((p.start, p.length)) } else { assert_eq!((p.start, p.length), (0, 0)); None };
+    assert_eq!(got, want, "loop_split {h:?} {k} {n}");
+}
+
+fn levels(r: &mut make::Rng) {
+    let points: Vec<EgPoint> = (0..r.below(5)).map(|_| EgPoint { duration_ms: r.next() as u16 >> r.below(16), dest: r.next() as i32 >> r.below(32) }).collect();
+    let e = Envelope { points };
+    let start = r.next() as i32 >> r.below(32);
+    let t = if r.once(9) { r.next() } else { r.below(2 * e.total_duration_ms() + 3) };
+    let mut bytes = e.write();
+    let n = r.below(6) as usize;
+    bytes.extend(r.bytes(n));
+    assert_eq!(abi::level_at_ms(&bytes, start, t), e.level_at_ms(start, t), "level_at_ms {e:?} {start} {t}");
+}
+
+fn floats(r: &mut make::Rng) {
+    let position = if r.once(2) { r.next() as i32 } else { r.below(70_000) as i32 - 2_000 };
+    let (w, p) = (abi::pan_weights(position), Pan { position });
+    assert_eq!((w.left.to_bits(), w.right.to_bits()), (p.left_weight().to_bits(), p.right_weight().to_bits()), "pan {position}");
+    let h = make::header(r);
+    let h = VoiceHeader { volume: r.next() as u32 >> r.below(32), ..h };
+    assert_eq!(abi::volume_f32(h.volume).to_bits(), h.volume_f32().to_bits(), "volume {}", h.volume);
+    let f = abi::frequency(h.samples_per_sec, h.samples_per_hi_cycle);
+    let got = if f.known { Some(f.hertz.to_bits()) } else { assert_eq!(f.hertz.to_bits(), 0); None };
+    assert_eq!(got, h.hi_cycle_frequency_hz().map(f64::to_bits), "frequency {h:?}");
+    let n = r.below(30) as usize;
+    let samples = r.samples(n);
+    let p = abi::peak(&samples);
+    assert_eq!(p.found, n > 0);
+    if n > 0 {
+        assert_eq!(p.magnitude, samples.iter().map(|s| s.unsigned_abs()).max().unwrap());
+        assert_eq!(samples[p.place as usize].unsigned_abs(), p.magnitude);
+    }
+}
+
+pub fn run(n: u64, seed: u64) {
+    let mut r = make::Rng::new(seed ^ 0x0C7A);
+    for _ in 0..n {
+        fibonacci(&mut r);
+        whole_body(&mut r);
+        octaves(&mut r);
+        levels(&mut r);
+        floats(&mut r);
+    }
+    println!("parts: {n} inputs each of seed {seed} for both Fibonacci codecs, decode_body, octave lengths, loop_split, level, pan, volume and frequency: no difference");
+    println!("  (the peak, which the original hasn't, against a plain search)");
+}
