@@ -5,9 +5,12 @@
 //!     compare parts N [SEED]     codecs, octaves, loops, levels, floats
 //!     compare list               the fixed list that the gate replays, on standard output (see list.rs)
 //!     compare bench              speed against the original
+//!     compare raw FILE OUT       a file's samples as the library reads them, interleaved (for sox.sh)
+//!     compare rewrite FILE OUT   a file read and written again by the library (for sox.sh)
 mod abi;
 mod bench;
 mod encode;
+mod files;
 mod list;
 mod make;
 mod parse;
@@ -23,8 +26,10 @@ fn main() {
         Some("parts") => parts::run(number(1, 1_000_000), number(2, 1)),
         Some("list") => list::run(args.get(1).expect("a folder to write to")),
         Some("bench") => bench::run(),
+        Some("raw") => files::raw(&args[1], &args[2]),
+        Some("rewrite") => files::rewrite(&args[1], &args[2]),
         _ => {
-            eprintln!("usage: compare parse|encode|parts N [SEED] | list FOLDER | bench");
+            eprintln!("usage: compare parse|encode|parts N [SEED] | list FOLDER | bench | raw|rewrite FILE OUT");
             std::process::exit(2);
         }
     }

@@ -1,7 +1,8 @@
 -- Demand 1. Whatever the bytes are, every entry finishes with its result or with one of the numbers that are listed for it, and a
 -- refused call changes no lent buffer.
 -- That an entry finishes, and reads and writes within its slices alone, is what a proved crate says. The contracts of the entries
--- say their answers and buffers by the definitions below; so this is about the entries. It is proved as `demand1`.
+-- say their answers and buffers by the definitions below; so this is about the entries that hosts call. (What stands below these, as
+-- the parse of one chunk, is refused by one or two numbers that its own contract names.) It is proved as `demand1`.
 use Prim.Native.Nat.{ℕ}
 use mathlib.Core.List.{List, [], _∷_}
 use mathlib.Core.Logic.{_⊎_}

@@ -5,8 +5,9 @@ use lib.ListN.{length, length-append, drop-of-length-le}
 use lib.Seq.{sets, sets-eq}
 use mathlib.Core.List.{List, [], _∷_, _++_, append-nil}
 use mathlib.Core.Path.{_≡_, refl, ap, sym, _∙_}
-use native.Mathlib.Nat.{add-zero}
+use native.Mathlib.Nat.{add-zero, zero-add}
 use native.Mathlib.Omega.{arith}
+use Rattle.laws.specs.Buffer.{written}
 use Rattle.laws.specs.Put.{Put}
 
 module _ {A : Type 0} where
@@ -30,6 +31,12 @@ module _ {A : Type 0} where
       let room : 0 + length xs ≤ length d = omega arith in
       let all : length d ≤ 0 + length xs = omega arith in
       p .is ∙ sets-eq xs d 0 room ∙ rw (drop-of-length-le d all) (append-nil xs)
+
+  -- stores at the front of a buffer that has room for them
+  pub put-front : {d xs d′ : List A} {r : ℕ} → length xs ≤ length d → Put d 0 xs d′ r → d′ ≡ written xs d
+  put-front {d} {xs} h p =
+      let room : 0 + length xs ≤ length d = omega arith in
+      p .is ∙ sets-eq xs d 0 room ∙ rw (zero-add (length xs))
 
   -- to store `rest` into d from `at` is to store `all` into d₀ from at₀: the invariant of a loop that writes
   pub record Underway (d₀ : List A) (at₀ : ℕ) (all d : List A) (at : ℕ) (rest : List A) : Type 0 where

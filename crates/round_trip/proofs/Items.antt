@@ -27,6 +27,7 @@ use Rattle.sheet.specs.Flat.{ifThere}
 use Rattle.sheet.specs.Allowed.{All, TextAllowed, Allowed}
 use Rattle.grammar.proofs.ListLaws.{each-append, each-map}
 use Rattle.grammar.proofs.FormLaws.{listed}
+use Rattle.grammar.proofs.VoiceLaws.{each-listed}
 use Rattle.sheet_form.specs.VoiceChunks.{textName, textChunk, voiceChunks}
 
 -- a chunk of one name for each value
@@ -72,12 +73,8 @@ module _ {A : Type 0} where
   named-bytes : (id : ℕ) (write : A → List ℕ) (values : List A) → each itemBytes (named id write values) ≡ each (λ a. chunkBytes id (write a)) values
   named-bytes id write values = each-map (λ a. chunk id (write a)) itemBytes (λ a. chunkBytes id (write a)) (λ a. refl) values
 
-  each-listed : (f : A → List ℕ) (o : Option A) → each f (listed o) ≡ ifThere f o
-  each-listed f none = refl
-  each-listed f (some a) = append-nil (f a)
-
   listed-bytes : (id : ℕ) (write : A → List ℕ) (o : Option A) → each itemBytes (named id write (listed o)) ≡ ifThere (λ a. chunkBytes id (write a)) o
-  listed-bytes id write o = named-bytes id write (listed o) ∙ each-listed (λ a. chunkBytes id (write a)) o
+  listed-bytes id write o = each-listed (λ a. chunk id (write a)) itemBytes (λ a. chunkBytes id (write a)) (λ a. refl) o
 
 pub items-bytes : (v : Voice) (samples : List ℕ) → each itemBytes (voiceItems v samples) ≡ voiceChunks v ++ chunkBytes body samples
 unfolding voiceChunks

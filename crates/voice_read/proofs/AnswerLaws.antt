@@ -3,7 +3,6 @@
 --     lengths-refused, lengths-given                what a reading is, by its lengths
 --     answer-refused, sheet-short .. answer-fits    the answer and the buffers after a call
 --     outputs-room, outputs-written                 the outputs of a file that is read: they have room, and are its answer
---     put-front                                     stores from a buffer's front on
 -- Assumes nothing.
 use Prim.Native.Nat.{ℕ, _+_, _^_, _≤_, _<_}
 use borrow.Author.Tests.{le-leb, lt-leb}
@@ -154,10 +153,3 @@ module _ (file : List ℕ) (l : Lengths) (m : Measured (readVoice file) l) (f : 
   outputs-written sheet sheet′ left left′ right right′ hs hl hr es el er =
       let sides = given-sides (itemsFrom f 12) (m .reading) given in
       answer-fits (readVoice file) sheet left right l m hs hl hr sheet′ left′ right′ (rw (← given .voice) at es) (rw sides at el) (rw sides at er)
-
--- ---- stores from a buffer's front on
-
-pub put-front : {A : Type 0} {d xs d′ : List A} {r : ℕ} → length xs ≤ length d → Put d 0 xs d′ r → d′ ≡ written xs d
-put-front {d = d} {xs} h p =
-    let room : 0 + length xs ≤ length d = omega arith in
-    p .is ∙ sets-eq xs d 0 room ∙ rw (zero-add (length xs))

@@ -25,10 +25,6 @@ use Rattle.voice_write.specs.Answers.{lengthOf, Room}
 use Rattle.voice_write.specs.WriteVoice.{contents, fileOf, writeVoice, writeSheet}
 use Rattle.voice_write.proofs.WriteLaws.{accepted, accepted-as, file-length, left-bound, flat-within, right-within}
 
--- what was stored at the front of a buffer with room for it
-pub put-written : {A : Type 0} {d xs d′ : List A} {r : ℕ} → length xs ≤ length d → Put d 0 xs d′ r → d′ ≡ written xs d
-put-written {d = d} {xs} h p = let room : 0 + length xs ≤ length d = omega arith in p .is ∙ rw (zero-add (length xs)) at (sets-eq xs d 0 room)
-
 -- ---- an outcome with its length
 
 -- it gives a file of n bytes

@@ -3,6 +3,7 @@
 use borrow.Author.Needs.{needs}
 use denote.Ref.{now}
 use mathlib.Core.Path.{_≡_}
+use Rattle.laws.proofs.PutLaws.{put-front}
 use Rattle.chunk.specs.Chunk.{itemsFrom}
 use Rattle.form.specs.Find.{firstOf}
 use Rattle.form.specs.Names.{body}
@@ -10,7 +11,6 @@ use Rattle.form_sheet.specs.FormVoice.{formVoice}
 use Rattle.sheet.specs.Read.{bodyOf}
 use Rattle.sheet.specs.Voice.{isStereo}
 use Rattle.sides.specs.Sides.{bodySides}
-use Rattle.voice_read.proofs.AnswerLaws.{put-front}
 use Rattle.voice_read.proofs.chunks.write_outputs.Statement.{statement}
 use Rattle.voice_read.proofs.chunks.write_outputs.Tie as tie
 

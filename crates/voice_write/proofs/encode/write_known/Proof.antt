@@ -5,11 +5,12 @@ use Prim.Native.Nat.{_-_}
 use denote.Ref.{now}
 use lib.ListN.{length}
 use native.Mathlib.Omega.{arith}
+use Rattle.laws.proofs.PutLaws.{put-front}
 use Rattle.encode_body.specs.BodyBytes.{bodyBytes}
 use Rattle.refusal.proofs.OutcomeLaws.{outcome-fits}
 use Rattle.sheet.specs.Read.{readSheet}
 use Rattle.voice_write.specs.WriteVoice.{contents, fileOf, writeSheet}
-use Rattle.voice_write.proofs.RoomLaws.{put-written, Writes, writes}
+use Rattle.voice_write.proofs.RoomLaws.{Writes, writes}
 use Rattle.voice_write.proofs.WriteLaws.{sidesOf, contents-length, file-length, number-end, file-put}
 use borrow.Author.Needs.{needs}
 use Rattle.voice_write.proofs.encode.write_known.Statement.{statement}
@@ -84,7 +85,7 @@ returns c =
     let count : a .n - 8 ≡ length held = omega (arith, f .held) in
     let sound = rw (c .before .before .before .before .sheet-stereo .ensures) at (c .before .before .put-body .ensures) in
     let all = file-put v (a .c) s (a .n - 8) count (c .before .before .before .before .before .before .before .before .before .before .before .before .before .before .before .before .before .before .before .put32 .ensures) (c .before .before .before .before .before .before .before .before .before .before .before .before .before .before .before .put322 .ensures) (c .before .before .before .before .before .before .before .before .before .before .before .put323 .ensures) (c .before .before .before .before .before .before .before .put-chunks .ensures) sound in
-    let here = put-written (omega (arith, long, f .held, f .room)) all in
+    let here = put-front (omega (arith, long, f .held, f .room)) all in
     outcome-fits (writeSheet (now (a .sheet)) s) (now (a .file)) (fileOf held) (f .is) (a .n) (f .held ∙ sym long) _ (f .room) here .1
 
 pub write-known-spec : {M : Type 1} → statement M
