@@ -29,6 +29,8 @@ fn whole_body(r: &mut make::Rng) {
     let mut out = vec![0xA5u8; 200];
     let got = abi::decode_body(&body, compression, channels, frames as u64, &mut out).map(|k| out[..k].to_vec());
     assert_eq!(got, want, "decode_body {compression} {channels} {frames} {body:02X?}");
+    let kept = want.as_ref().map_or(0, |w| w.len());
+    assert!(out[kept..].iter().all(|x| *x == 0xA5), "past the output");
     if let Ok(w) = want {
         if !w.is_empty() {
             let mut short = vec![0xA5u8; w.len() - 1];
