@@ -14,6 +14,11 @@
  *    FADE or BODY                   12 Fibonacci channel under 2 bytes      20 output buffer too short
  *  6 chunk length wrong             13 octave total over 2^64 - 1
  *  7 CHAN not 2, 4 or 6             14 channel shorter than its octaves
+ *
+ * Of a fill:
+ * 21 SEQN segment invalid           24 sequence over 4,294,967,295 samples  32 step 0 or above 16,777,216
+ * 22 SEQN with one-shot not 0       25 odd number of places                33 rate 0 or above 192,000
+ * 23 FADE names no segment          31 octave absent                       34 key-up frame later than the frames filled
  */
 #ifndef SVX_H
 #define SVX_H
@@ -47,6 +52,40 @@ uint32_t svx_file_length(const uint8_t *sheet, size_t sheet_len, const int8_t *l
  * Refused by 15 to 17, then 10, 13, 18, 19, 20 in that order. */
 uint32_t svx_encode_voice(const uint8_t *sheet, size_t sheet_len, const int8_t *left, size_t left_len, const int8_t *right,
                           size_t right_len, uint8_t *file, size_t file_len, uint64_t *length);
+
+/* Notes. A note is a value: each call takes it and gives the note after it, and what a host keeps of it is all there is to keep. The same
+ * calls give the same frames, however the frames are cut into blocks. */
+
+/* step: 65,536 is one sample a frame; rate is the output's, in frames a second; frames is how many were filled. key_up is the frame of the
+ * key-up, and 0 while the note is held: of a note handed in with released false it is ignored, and it comes back as 0. */
+typedef struct {
+    uint8_t octave;
+    uint32_t step;
+    uint32_t rate;
+    uint32_t frames;
+    bool released;
+    uint32_t key_up;
+} SvxNote;
+
+/* refusal is 0 or the refusal's number; sounding is how many frames of the block weren't over, and 0 where refused. */
+typedef struct {
+    uint32_t refusal;
+    uint64_t sounding;
+    SvxNote note;
+} SvxFilled;
+
+/* A fresh note: no frames filled, held.
+ * Whatever it is given it keeps; a fill judges it. */
+SvxNote svx_note_start(uint8_t octave, uint32_t step, uint32_t rate);
+
+/* The note after a key-up, which is at the frames filled.
+ * Only the first key-up counts. */
+SvxNote svx_note_key_up(SvxNote note);
+
+/* Fills a buffer with the next frames of a note on a voice, left and right 16-bit values by turns; out_len counts places, two a frame.
+ * Refused by 15 to 17, then 10, 13, 18, 21 to 25, 31 to 34 in that order; then the note comes back as it was. */
+SvxFilled svx_note_fill(SvxNote note, const uint8_t *sheet, size_t sheet_len, const int8_t *left, size_t left_len, const int8_t *right,
+                        size_t right_len, int16_t *out, size_t out_len);
 
 /* BODY and its channels. */
 

@@ -1,4 +1,6 @@
 //! The library's C interface, as include/svx.h has it.
+use crate::plain_note;
+
 #[repr(C)]
 #[derive(Clone, Copy, Debug, PartialEq)]
 pub struct Frequency { pub known: bool, pub hertz: f64 }
@@ -15,7 +17,27 @@ pub struct Part { pub there: bool, pub start: u64, pub length: u64 }
 #[derive(Clone, Copy, Debug, PartialEq)]
 pub struct Record { pub step: u8, pub kind: u8, pub start: u64, pub next: u64 }
 
+#[repr(C)]
+#[derive(Clone, Copy, Debug)]
+pub struct Note { pub octave: u8, pub step: u32, pub rate: u32, pub frames: u32, pub released: bool, pub key_up: u32 }
+#[repr(C)]
+#[derive(Clone, Copy, Debug)]
+pub struct Filled { pub refusal: u32, pub sounding: u64, pub note: Note }
+
+impl Note {
+    pub fn of(n: plain_note::Note) -> Self {
+        Note { octave: n.octave, step: n.step, rate: n.rate, frames: n.frames, released: n.key_up.is_some(), key_up: n.key_up.unwrap_or(77) }
+    }
+    pub fn plain(self) -> plain_note::Note {
+        plain_note::Note { octave: self.octave, step: self.step, rate: self.rate, frames: self.frames, key_up: if self.released { Some(self.key_up) } else { None } }
+    }
+}
+
 extern "C" {
+    fn svx_note_start(octave: u8, step: u32, rate: u32) -> Note;
+    fn svx_note_key_up(note: Note) -> Note;
+    fn svx_note_fill(note: Note, sheet: *const u8, sheet_len: usize, left: *const i8, left_len: usize, right: *const i8, right_len: usize,
+        out: *mut i16, out_len: usize) -> Filled;
     fn svx_voice_lengths(file: *const u8, file_len: usize, lengths: *mut u64) -> u32;
     fn svx_parse_voice(file: *const u8, file_len: usize, sheet: *mut u8, sheet_len: usize, left: *mut i8, left_len: usize,
         right: *mut i8, right_len: usize, lengths: *mut u64) -> u32;
@@ -115,4 +137,17 @@ pub fn loop_repeat(one_shot: u32, repeat: u32, octaves: u8, k: u8, octave_len: u
 }
 pub fn side_samples(sheet: &[u8], left_len: u64, right_len: u64, right: bool) -> Part {
     unsafe { svx_side_samples(sheet.as_ptr(), sheet.len(), left_len, right_len, right) }
+}
+pub fn note_start(octave: u8, step: u32, rate: u32) -> Note { held_as_zero(unsafe { svx_note_start(octave, step, rate) }) }
+pub fn note_key_up(n: Note) -> Note { held_as_zero(unsafe { svx_note_key_up(n) }) }
+pub fn note_fill(n: Note, sheet: &[u8], left: &[i8], right: &[i8], out: &mut [i16]) -> Filled {
+    let f = unsafe { svx_note_fill(n, sheet.as_ptr(), sheet.len(), left.as_ptr(), left.len(), right.as_ptr(), right.len(), out.as_mut_ptr(), out.len()) };
+    held_as_zero(f.note);
+    f
+}
+
+/// A held note comes back with the key-up frame 0, whatever it was handed in with.
+fn held_as_zero(n: Note) -> Note {
+    assert!(n.released || n.key_up == 0, "a held note has a key-up frame");
+    n
 }

@@ -3,8 +3,10 @@
 //!     compare parse N [SEED]     files: refusal or sheet and samples
 //!     compare encode N [SEED]    voices: refusal or file
 //!     compare parts N [SEED]     codecs, octaves, loops, levels, floats
+//!     compare note N [SEED]      notes: fills and key-ups against a plain note, written from the specification (plain_note.rs)
 //!     compare list               the fixed list that the gate replays, on standard output (see list.rs)
-//!     compare bench              speed against the original
+//!     compare bench              speed against the original and, for notes, against the plain note
+//!     compare note-bench         the notes alone
 //!     compare raw FILE OUT       a file's samples as the library reads them, interleaved (for sox.sh)
 //!     compare rewrite FILE OUT   a file read and written again by the library (for sox.sh)
 mod abi;
@@ -13,8 +15,11 @@ mod encode;
 mod files;
 mod list;
 mod make;
+mod note;
+mod note_bench;
 mod parse;
 mod parts;
+mod plain_note;
 mod rust_side;
 
 fn main() {
@@ -24,12 +29,14 @@ fn main() {
         Some("parse") => parse::run(number(1, 1_000_000), number(2, 1)),
         Some("encode") => encode::run(number(1, 1_000_000), number(2, 1)),
         Some("parts") => parts::run(number(1, 1_000_000), number(2, 1)),
+        Some("note") => note::run(number(1, 1_000_000), number(2, 1)),
         Some("list") => list::run(args.get(1).expect("a folder to write to")),
-        Some("bench") => bench::run(),
+        Some("bench") => { bench::run(); note_bench::run(); }
+        Some("note-bench") => note_bench::run(),
         Some("raw") => files::raw(&args[1], &args[2]),
         Some("rewrite") => files::rewrite(&args[1], &args[2]),
         _ => {
-            eprintln!("usage: compare parse|encode|parts N [SEED] | list FOLDER | bench | raw|rewrite FILE OUT");
+            eprintln!("usage: compare parse|encode|parts|note N [SEED] | list FOLDER | bench | note-bench | raw|rewrite FILE OUT");
             std::process::exit(2);
         }
     }

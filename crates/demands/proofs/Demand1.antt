@@ -1,4 +1,4 @@
--- Demand 1: the numbers of each entry, and that a refused call changes no lent buffer.
+-- Demand 1: the numbers of each entry, and that a refused call changes no lent buffer and no note.
 -- Assumes nothing.
 use Prim.Native.Nat.{ℕ}
 use mathlib.Core.Bool.{Bool, true, false, cond}
@@ -6,6 +6,7 @@ use mathlib.Core.List.{List, [], _∷_}
 use mathlib.Core.Logic.{inl, inr}
 use mathlib.Core.Path.{_≡_, refl}
 use lib.Dec.{leb}
+use lib.IntN.{ℤ}
 use lib.ListN.{length}
 use Rattle.laws.proofs.Cases.{impossible}
 use Rattle.laws.specs.Buffer.{written}
@@ -16,17 +17,23 @@ use Rattle.fibonacci.specs.Decode.{fibChannel}
 use Rattle.fibonacci.specs.Encode.{fibBytes}
 use Rattle.body.specs.Body.{decodedBody}
 use Rattle.sheet.specs.Flat.{flat}
+use Rattle.frame.specs.declared.Frame.{Frame}
+use Rattle.note.specs.Fill.{answerOf as fillAnswer, fillSheet, noteAfter, blockAfter}
+use Rattle.note.specs.Note.{requestOf}
+use Rattle.note.specs.declared.Answer.the-variants as Answer
+use Rattle.note.specs.declared.Note.{Note}
 use Rattle.voice_read.specs.ReadVoice.{Reading, readVoice}
 use Rattle.voice_read.specs.Parsed.{lengthsOf, neededBy, fits, answerOf, after}
 use Rattle.voice_read.specs.declared.chunks.Parsed.the-variants as Parsed
 use Rattle.voice_write.specs.WriteVoice.{writeSheet}
 use Rattle.voice_write.specs.Answers.{lengthOf}
-use Rattle.demands.specs.Demand1.{Among, readingNumbers, writingNumbers, bodyNumbers, channelNumbers, FillsOrKeeps, Demand1}
+use Rattle.demands.specs.Demand1.{Among, readingNumbers, writingNumbers, bodyNumbers, channelNumbers, fillNumbers, FillsOrKeeps, Demand1}
 use Rattle.demands.proofs.NumberLaws.{one-of, Within, refused-by}
 use Rattle.demands.proofs.FirstNumbers.{refused-record}
 use Rattle.demands.proofs.DecodeNumbers.{channel-within, body-within}
 use Rattle.demands.proofs.ReadNumbers.{reading-within}
 use Rattle.demands.proofs.WriteNumbers.{sheet-number, writing-within}
+use Rattle.demands.proofs.FillNumbers.{fill-within}
 
 -- ---- one buffer
 
@@ -62,6 +69,13 @@ module _ {A : Type 0} (output : Reading → List A) (buffer : List A) (sheet lef
       go true e = impossible cc
       go false e = (inl cc, refl)
 
+-- ---- the note and the buffer of a fill
+
+module _ (numbers : List ℕ) (note : Note) (buffer : List ℤ) (n : ℕ) where
+  filled-or-keeps : (o : Outcome (List Frame)) → Within numbers o → fillAnswer o ≡ Answer.Refused n → Among n numbers × (noteAfter o note ≡ note) × (blockAfter o buffer ≡ buffer)
+  filled-or-keeps (gives block) w e = impossible cc
+  filled-or-keeps (refuses k) w e = let same : k ≡ n = cc in (rw (← same) w, refl, refl)
+
 -- ---- the demand
 
 pub demand1 : Demand1
@@ -82,4 +96,7 @@ demand1 = record {
   fibonacci-encode-channel = λ samples. fills-or-keeps [] (gives (fibBytes samples)) tt;
   judge-sheet = sheet-number;
   record-at = refused-record;
+  note-fill = λ sheet sides note buffer n.
+      let r = requestOf note (length buffer) in
+      filled-or-keeps fillNumbers note buffer n (fillSheet sheet sides r) (fill-within sheet sides r);
 }

@@ -5,5 +5,10 @@ pub mod DecodeNumbers
 pub mod ReadNumbers
 pub mod WriteNumbers
 pub mod Accepted
-pub mod Demand2
+pub mod Played
+pub mod OneNote
+pub mod FillNumbers
 pub mod Demand1
+pub mod Demand2
+pub mod Demand3
+pub mod TableP

@@ -18,7 +18,7 @@ use Rattle.demands.specs.Demand1.{Among}
 -- ---- a number of a list
 
 -- the tests
-abbrev isOneOf : List ℕ → ℕ → Bool
+abbrev pub isOneOf : List ℕ → ℕ → Bool
 isOneOf [] n = false
 isOneOf (m ∷ ms) n = eqb n m || isOneOf ms n
 
@@ -30,7 +30,7 @@ one-of (m ∷ ms) n t = go (eqb n m) refl t (one-of ms n)
     go true e t later = inl (eqb-true n m e)
     go false e t later = inr (later t)
 
-abbrev areOf : List ℕ → List ℕ → Bool
+abbrev pub areOf : List ℕ → List ℕ → Bool
 areOf ms [] = true
 areOf ms (n ∷ ns) = isOneOf ms n && areOf ms ns
 

@@ -3,21 +3,22 @@
 use Prim.Native.Nat.{ℕ, _^_}
 use mathlib.Core.List.{List, _∷_}
 use mathlib.Core.Path.{_≡_}
-use lib.Dec.{ltb}
+use lib.Dec.{T, ltb}
 use lib.ListN.{length}
 use Rattle.refusal.specs.Numbers.{compression, octaveTotal, textIllFormed, sampleLengths, formLength}
+use Rattle.refusal.specs.Outcome.{Outcome}
 use Rattle.header.specs.Octaves.{totalSamples}
 use Rattle.sides.specs.Sides.{Sides, lengthsSuit}
 use Rattle.sheet.specs.Voice.{Voice, isStereo}
 use Rattle.sheet.specs.Read.{readSheet, groups}
 use Rattle.sheet.specs.Record.{records}
 use Rattle.sheet.specs.Order.{firstWrong}
-use Rattle.sheet.specs.Judge.{textsWellFormed, judgedItems, judged}
+use Rattle.sheet.specs.Judge.{textsWellFormed, judgedItems, judged, ifSound}
 use Rattle.sheet.specs.declared.judge.Judged.{Judged}
 use Rattle.sheet.specs.declared.judge.Judged.the-variants.{Sound, Refused}
-use Rattle.voice_write.specs.WriteVoice.{contents, held32, writeVoice, ifSound, writeSheet}
+use Rattle.voice_write.specs.WriteVoice.{contents, held32, writeVoice, writeSheet}
 use Rattle.demands.specs.Demand1.{Among, writingNumbers, sheetNumbers, recordNumbers}
-use Rattle.demands.proofs.NumberLaws.{one-of, all-of, Within, by-test, unless-zero}
+use Rattle.demands.proofs.NumberLaws.{one-of, areOf, all-of, Within, by-test, unless-zero}
 use Rattle.demands.proofs.FirstNumbers.{wrong-number}
 use Rattle.demands.proofs.DecodeNumbers.{compression-within}
 
@@ -34,6 +35,14 @@ sheet-within sheet =
     unless-zero sheetNumbers (SoundWithin sheetNumbers) (firstWrong 0 (records sheet)) (all-of (0 ∷ sheetNumbers) (0 ∷ recordNumbers) tt _ (wrong-number sheet 0 0))
     (by-test (SoundWithin sheetNumbers) (textsWellFormed (groups 10 11 (records sheet))) tt (one-of sheetNumbers textIllFormed tt))
     (λ refused. refused)
+
+-- what follows for a sheet that is sound
+pub if-sound-within : {A : Type 0} (numbers : List ℕ) → T (areOf numbers sheetNumbers) → (sheet : List ℕ) (o : Outcome A) → Within numbers o → Within numbers (ifSound (judged sheet) o)
+if-sound-within {A} numbers t sheet o w = go (judged sheet) (sheet-within sheet)
+  where
+    go : (j : Judged) → SoundWithin sheetNumbers j → Within numbers (ifSound j o)
+    go Sound s = w
+    go (Refused n) s = all-of numbers sheetNumbers t n s
 
 pub sheet-number : (sheet : List ℕ) (n : ℕ) → judged sheet ≡ Refused n → Among n sheetNumbers
 sheet-number sheet n e = rw e at (sheet-within sheet)
@@ -52,8 +61,4 @@ voice-within v s =
     (one-of writingNumbers octaveTotal tt))
 
 pub writing-within : (sheet : List ℕ) (s : Sides) → Within writingNumbers (writeSheet sheet s)
-writing-within sheet s = go (judged sheet) (sheet-within sheet)
-  where
-    go : (j : Judged) → SoundWithin sheetNumbers j → Within writingNumbers (ifSound j (writeVoice (readSheet sheet) s))
-    go Sound w = voice-within (readSheet sheet) s
-    go (Refused n) w = all-of writingNumbers sheetNumbers tt n w
+writing-within sheet s = if-sound-within writingNumbers tt sheet (writeVoice (readSheet sheet) s) (voice-within (readSheet sheet) s)

@@ -1,5 +1,5 @@
 -- Demand 1. Whatever the bytes are, every entry finishes with its result or with one of the numbers that are listed for it, and a
--- refused call changes no lent buffer.
+-- refused call changes no lent buffer and no note.
 -- That an entry finishes, and reads and writes within its slices alone, is what a proved crate says. The contracts of the entries
 -- say their answers and buffers by the definitions below; so this is about the entries that hosts call. (What stands below these, as
 -- the parse of one chunk, is refused by one or two numbers that its own contract names.) It is proved as `demand1`.
@@ -12,6 +12,7 @@ use lib.ListN.{length}
 use Rattle.refusal.specs.Numbers.{fileShort, notForm, not8svx, chunkPastForm, chunkTwice, chunkLength, channelValue, noHeader, noBody}
 use Rattle.refusal.specs.Numbers.{compression, oddHalves, channelShort, octaveTotal, samplesShort}
 use Rattle.refusal.specs.Numbers.{recordCut, recordWrong, textIllFormed, sampleLengths, formLength, bufferShort}
+use Rattle.refusal.specs.Numbers.{segment, sequenceOneShot, fadeSegment, sequenceLength, oddPlaces, noOctave, step, rate, keyUp}
 use Rattle.refusal.specs.Outcome.{Outcome, gives, refuses, answer, bufferAfter}
 use Rattle.refusal.specs.declared.Output.the-variants as Output
 use Rattle.fibonacci.specs.Decode.{fibChannel}
@@ -23,6 +24,10 @@ use Rattle.sheet.specs.Record.{recordAt}
 use Rattle.sheet.specs.declared.judge.Judged.the-variants as Judged
 use Rattle.sheet.specs.declared.record.RecordStep.the-variants as RecordStep
 use Rattle.sides.specs.Sides.{Sides}
+use Rattle.note.specs.Fill.{answerOf as fillAnswer, fillSheet, noteAfter, blockAfter}
+use Rattle.note.specs.Note.{requestOf}
+use Rattle.note.specs.declared.Answer.the-variants as Answer
+use Rattle.note.specs.declared.Note.{Note}
 use Rattle.voice_read.specs.ReadVoice.{readVoice}
 use Rattle.voice_read.specs.Parsed.{neededBy, answerOf, after}
 use Rattle.voice_read.specs.declared.chunks.Parsed.the-variants as Parsed
@@ -57,6 +62,12 @@ channelNumbers = channelShort ∷ []
 -- judging a sheet: 15, 16, 17
 abbrev pub sheetNumbers : List ℕ
 sheetNumbers = recordCut ∷ recordWrong ∷ textIllFormed ∷ []
+
+-- filling a block of a note: 10, 13, 15 to 18, 21 to 25, 31 to 34
+abbrev pub fillNumbers : List ℕ
+fillNumbers =
+    compression ∷ octaveTotal ∷ recordCut ∷ recordWrong ∷ textIllFormed ∷ sampleLengths
+    ∷ segment ∷ sequenceOneShot ∷ fadeSegment ∷ sequenceLength ∷ oddPlaces ∷ noOctave ∷ step ∷ rate ∷ keyUp ∷ []
 
 -- one record of a sheet: 15, 16
 abbrev pub recordNumbers : List ℕ
@@ -98,3 +109,9 @@ pub record Demand1 : Type 0 where
   pub judge-sheet : (sheet : List ℕ) (n : ℕ) → judged sheet ≡ Judged.Refused n → Among n sheetNumbers
   -- record_at is refused by 15 or 16
   pub record-at : (sheet : List ℕ) (at n : ℕ) → recordAt sheet at ≡ RecordStep.Refused n → Among n recordNumbers
+  -- a note's fill is refused by 10, 13, 15 to 18, 21 to 25 or 31 to 34, and then the note and the buffer are as they were
+  pub note-fill : (sheet : List ℕ) (sides : Sides) (note : Note) (buffer : List ℤ) (n : ℕ)
+      → fillAnswer (fillSheet sheet sides (requestOf note (length buffer))) ≡ Answer.Refused n
+      → Among n fillNumbers
+      × (noteAfter (fillSheet sheet sides (requestOf note (length buffer))) note ≡ note)
+      × (blockAfter (fillSheet sheet sides (requestOf note (length buffer))) buffer ≡ buffer)

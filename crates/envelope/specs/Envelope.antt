@@ -1,5 +1,5 @@
 -- The level of an envelope at a time: points run one after another, each from where the last one got to.
-use Prim.Native.Nat.{ℕ, _-_}
+use Prim.Native.Nat.{ℕ, _+_, _-_}
 use mathlib.Core.Bool.{cond}
 use mathlib.Core.List.{List, [], _∷_}
 use lib.Dec.{leb}
@@ -12,3 +12,8 @@ unfoldable pub levelAt : List EgPoint → ℤ → ℕ → ℤ
 levelAt [] level t = level
 levelAt (p ∷ ps) level t =
     cond (leb (p .«duration_ms») t) (levelAt ps (p .dest) (t - p .«duration_ms»)) (onTheWay level (p .dest) t (p .«duration_ms»))
+
+-- how long all points take
+unfoldable pub totalDuration : List EgPoint → ℕ
+totalDuration [] = 0
+totalDuration (p ∷ ps) = p .«duration_ms» + totalDuration ps

@@ -1,9 +1,10 @@
-// The level of an envelope at a time.
+// The level of an envelope at a time, and how long an envelope takes.
 use level::on_the_way;
 use small_chunks::EgPoint;
 ghost use mathlib.Core.Path.{_≡_};
+ghost use Prim.Native.Nat.{_-_, _^_, min};
 ghost use Rattle.small_chunks.specs.Envelope.{envelopePoints};
-ghost use Rattle.envelope.specs.Envelope.{levelAt};
+ghost use Rattle.envelope.specs.Envelope.{levelAt, totalDuration};
 
 // The level t_ms milliseconds into an envelope that begins at `start`. Points are as ATAK and RLSE have them, six bytes each; a
 // remainder is ignored.
@@ -24,4 +25,22 @@ pub fn level_at_ms(points: &[u8], start: i32, t_ms: u64) -> i32
         at += 6;
     }
     level
+}
+
+// How many milliseconds the points take together. A sum past 64 bits, which no memory holds points for, stays at the largest.
+pub fn total_duration_ms(points: &[u8]) -> u64
+    ensures { λ r. ⌜ r ≡ min (totalDuration (envelopePoints (now (points .entry)))) (2 ^ 64 - 1) ⌝ }
+{
+    let mut sum: u64 = 0;
+    let mut at = 0;
+    while 6 <= points.len() - at {
+        let p = EgPoint::read(points, at);
+        let duration = p.duration_ms as u64;
+        if 0xffff_ffff_ffff_ffff - sum < duration {
+            return 0xffff_ffff_ffff_ffff;
+        }
+        sum += duration;
+        at += 6;
+    }
+    sum
 }

@@ -1,6 +1,9 @@
 // Where the parts of a sound sheet lie, and what they are. A caller has judged the sheet; the walk here passes over envelopes and
 // segments alone, so texts cost nothing.
+mod members;
+
 use header::VoiceHeader;
+pub use members::next_member;
 use small_chunks::ChannelAssignment;
 use small_chunks::Fade;
 use small_chunks::Pan;

@@ -14,6 +14,7 @@ pub use envelope::EgPoint;
 pub use pan::Pan;
 pub use pan::PanWeights;
 pub use pan::ParsedPan;
+pub use pan::held_to_unity;
 pub use sequence::Fade;
 pub use sequence::ParsedFade;
 pub use sequence::SeqnSegment;

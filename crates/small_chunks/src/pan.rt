@@ -21,7 +21,7 @@ pub struct PanWeights {
 }
 
 // A 16.16 number held within 0..65,536.
-fn held_to_unity(z: i32) -> u32
+pub fn held_to_unity(z: i32) -> u32
     ensures { λ r. ⌜ r ≡ heldToUnity z ⌝ }
 {
     if z <= 0 {

@@ -13,11 +13,9 @@ use Rattle.header.specs.declared.compression.Compression.{Compression}
 use Rattle.chunk.specs.ChunkBytes.{chunkBytes}
 use Rattle.form.specs.Names.{form, formType, body}
 use Rattle.encode_body.specs.BodyBytes.{bodyBytes}
-use Rattle.sheet.specs.Judge.{judged}
+use Rattle.sheet.specs.Judge.{judged, ifSound}
 use Rattle.sheet.specs.Read.{readSheet}
 use Rattle.sheet.specs.Voice.{Voice, isStereo}
-use Rattle.sheet.specs.declared.judge.Judged.{Judged}
-use Rattle.sheet.specs.declared.judge.Judged.the-variants.{Sound, Refused}
 use Rattle.sheet_form.specs.VoiceChunks.{voiceChunks}
 use Rattle.sides.specs.Sides.{Sides, lengthsSuit}
 
@@ -40,11 +38,6 @@ writeVoice v s =
     cond (ltb (totalSamples (v .header)) (2 ^ 64))
     (cond (lengthsSuit (v .header) (isStereo (v .channel)) (length (s .left)) (length (s .right))) (held32 (contents v c s)) (refuses sampleLengths))
     (refuses octaveTotal))
-
--- what follows for a sheet that is accepted; 15 to 17 else
-abbrev pub ifSound : {A : Type 0} → Judged → Outcome A → Outcome A
-ifSound Sound next = next
-ifSound (Refused number) next = refuses number
 
 -- the file of a sheet and its samples
 abbrev pub writeSheet : List ℕ → Sides → Outcome (List ℕ)

@@ -75,7 +75,7 @@ loop-again c =
 returns-2 : tie.Need-returns-2 Inv-loop μ-loop
 returns-2 c =
     let l = c .before in
-    sym (none-left (l .before .before .args .points .now) (l .loop .at) (toZ w32 (l .loop .level)) (l .loop .left) (c .loop-test .left)) ∙ l .loop .inv .1 ∙ start-is (l .before .before)
+    sym (none-left (l .before .before .args .points .now) (l .loop .at) (c .loop-test .left) (toZ w32 (l .loop .level)) (l .loop .left)) ∙ l .loop .inv .1 ∙ start-is (l .before .before)
 
 pub level-at-ms-spec : {M : Type 1} → statement M
 level-at-ms-spec =

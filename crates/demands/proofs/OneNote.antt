@@ -1,0 +1,152 @@
+-- The blocks of the reckoning are the first frames of one note, whose key is the last state's. A key-up changes no frame that was put
+-- out before it, so each block is of that note; and the last state's key is the first key-up's.
+-- Assumes nothing.
+use Prim.Native.Nat.{ℕ, _+_, _*_, _/_, _<_, min}
+use mathlib.Core.Bool.{cond}
+use mathlib.Core.List.{List, [], _∷_, _++_}
+use mathlib.Core.Path.{_≡_, refl, sym, ap, _∙_}
+use native.Mathlib.Nat.{add-zero, zero-add}
+use native.Mathlib.Omega.{arith}
+use lib.IntN.{ℤ}
+use lib.ListN.{length, length-append}
+use Rattle.refusal.specs.Outcome.{Outcome, gives, refuses}
+use Rattle.frame.specs.declared.Frame.{Frame}
+use Rattle.block.specs.Frames.{framesFrom, interleaved}
+use Rattle.block.proofs.FramesLaws.{frames-none, frames-length, frames-join, frames-same, interleaved-none, interleaved-length, interleaved-half, interleaved-join}
+use Rattle.fill_rules.specs.declared.«note_rules».Key.{Key}
+use Rattle.fill_rules.specs.declared.«note_rules».Key.the-variants.{Held, Released}
+use Rattle.next_block.specs.Frame.{frame}
+use Rattle.note.proofs.BlockLaws.{block-frames}
+use Rattle.next_block.proofs.FrameLaws.{frame-put}
+use Rattle.voice_read.specs.ReadVoice.{Reading}
+use Rattle.demands.specs.Reckoning.{Call, fill, keyUp, Started, State, atFirst, setBy, fillOf, grown, putOut, reckonFrom}
+use Rattle.demands.specs.Reckoning.{hasKeyUp, beforeKeyUp, framesOf, keyOf, firstFrames}
+
+-- ---- what a fill puts out
+
+-- its block; a fill turned back has none
+abbrev blockOf : Outcome (List Frame) → List Frame
+blockOf (gives block) = block
+blockOf (refuses number) = []
+
+grown-is : (o : Outcome (List Frame)) (state : State) → grown o state ≡ record { n = state .n + length (blockOf o); u = state .u }
+grown-is (gives block) state = refl
+grown-is (refuses number) state = rw add-zero
+
+put-length : (o : Outcome (List Frame)) → length (putOut o) ≡ 2 * length (blockOf o)
+put-length (gives block) = interleaved-length block
+put-length (refuses number) = refl
+
+-- ---- values that are frames in order
+
+record InOrder (f : ℕ → Frame) (n : ℕ) (values : List ℤ) : Type 0 where
+  count : ℕ
+  is : values ≡ interleaved (framesFrom f n count)
+
+module _ (f : ℕ → Frame) (n : ℕ) where
+  order-put : (o : Outcome (List Frame)) (values : List ℤ) → blockOf o ≡ framesFrom f n (length (blockOf o)) → InOrder f (n + length (blockOf o)) values → InOrder f n (putOut o ++ values)
+  order-put (gives block) values e later =
+      let rest = framesFrom f (n + length block) (later .count) in
+      record {
+        count = length block + later .count;
+        is = ap (λ l. interleaved block ++ l) (later .is) ∙ rw (frames-join f n (length block) (later .count), ← e) (sym (interleaved-join block rest));
+      }
+  order-put (refuses number) values e later = rw add-zero at later
+
+  order-count : (values : List ℤ) → InOrder f n values → values ≡ interleaved (framesFrom f n (length values / 2))
+  order-count values o =
+      let half : length values / 2 ≡ o .count = ap (λ (l : List ℤ). length l / 2) (o .is) ∙ interleaved-half (framesFrom f n (o .count)) ∙ frames-length f n (o .count) in
+      rw half (o .is)
+
+module _ (r : Reading) (s : Started) where
+  -- the note's frames, with this key
+  abbrev framesBy : Key → ℕ → Frame
+  framesBy key = frame (r .voice) (r .sides) (s .octave) (s .step) (s .rate) key
+
+  -- a fill's block, from a state
+  abbrev blockAt : State → ℕ → List Frame
+  blockAt state places = blockOf (fillOf r s state places)
+
+  block-is : (state : State) (places : ℕ) → blockAt state places ≡ framesFrom (framesBy (state .u)) (state .n) (length (blockAt state places))
+  block-is state places = go (fillOf r s state places) refl
+    where
+      f : ℕ → Frame
+      f = framesBy (state .u)
+
+      go : (o : Outcome (List Frame)) → fillOf r s state places ≡ o → blockOf o ≡ framesFrom f (state .n) (length (blockOf o))
+      go (gives block) e =
+          let is = block-frames (r .voice) (r .sides) _ block e in
+          let long : length block ≡ places / 2 = ap length is ∙ frames-length f (state .n) (places / 2) in
+          rw long is
+      go (refuses number) e = sym (frames-none f (state .n))
+
+  -- the state after a fill
+  abbrev filled : State → ℕ → State
+  filled state places = record { n = state .n + length (blockAt state places); u = state .u }
+
+  -- and after a key-up
+  abbrev released : State → State
+  released state = record { n = state .n; u = setBy (state .u) (state .n) }
+
+  -- the last state's key
+  abbrev lastKey : State → List Call → Key
+  lastKey state [] = state .u
+  lastKey state (fill places ∷ calls) = lastKey (filled state places) calls
+  lastKey state (keyUp ∷ calls) = lastKey (released state) calls
+
+  -- a key-up changes no frame before it
+  frame-same : (n : ℕ) (u : Key) (p : ℕ) → p < n → framesBy (setBy u n) p ≡ framesBy u p
+  frame-same n Held p h = frame-put (r .voice) (r .sides) (s .octave) (s .step) (s .rate) n p h
+  frame-same n (Released u) p h = refl
+
+  -- nor do later calls
+  frame-stays : (calls : List Call) (state : State) (p : ℕ) → p < state .n → framesBy (lastKey state calls) p ≡ framesBy (state .u) p
+  frame-stays [] state p h = refl
+  frame-stays (fill places ∷ calls) state p h = frame-stays calls (filled state places) p (omega arith)
+  frame-stays (keyUp ∷ calls) state p h = frame-stays calls (released state) p h ∙ frame-same (state .n) (state .u) p h
+
+  -- ---- the blocks
+
+  blocks-are : (calls : List Call) (state : State) → InOrder (framesBy (lastKey state calls)) (state .n) (reckonFrom r s state calls .blocks)
+  unfolding reckonFrom
+  blocks-are [] state = record { count = 0; is = sym (interleaved-none (framesBy (state .u)) (state .n)) }
+  blocks-are (fill places ∷ calls) state =
+      let o = fillOf r s state places in
+      let next = filled state places in
+      let d = length (blockAt state places) in
+      let f = framesBy (lastKey next calls) in
+      let same : framesFrom (framesBy (state .u)) (state .n) d ≡ framesFrom f (state .n) d =
+      frames-same (framesBy (state .u)) f (state .n) d (λ j from below. sym (frame-stays calls next j below)) in
+      rw (grown-is o state)
+      (order-put f (state .n) o (reckonFrom r s next calls .blocks) (block-is state places ∙ same) (blocks-are calls next))
+  blocks-are (keyUp ∷ calls) state = blocks-are calls (released state)
+
+  -- ---- the key
+
+  key-released : (calls : List Call) (n u : ℕ) → lastKey (record { n = n; u = Released u }) calls ≡ Released u
+  key-released [] n u = refl
+  key-released (fill places ∷ calls) n u = key-released calls (n + length (blockAt (record { n = n; u = Released u }) places)) u
+  key-released (keyUp ∷ calls) n u = key-released calls n u
+
+  -- the key of a note held so far, from the calls to come
+  abbrev keyFrom : ℕ → List Call → Key
+  keyFrom n calls = cond (hasKeyUp calls) (Released (min (n + framesOf (reckonFrom r s (record { n = n; u = Held }) (beforeKeyUp calls))) 4294967295)) Held
+
+  key-held : (calls : List Call) (n : ℕ) → lastKey (record { n = n; u = Held }) calls ≡ keyFrom n calls
+  unfolding reckonFrom
+  key-held [] n = refl
+  key-held (fill places ∷ calls) n =
+      let state : State = record { n = n; u = Held } in
+      let o = fillOf r s state places in
+      let d = length (blockAt state places) in
+      let rest = reckonFrom r s (filled state places) (beforeKeyUp calls) .blocks in
+      let count : n + length (putOut o ++ rest) / 2 ≡ n + d + length rest / 2 = rw (length-append, put-length o) (omega arith) in
+      rw (grown-is o state, count) (key-held calls (n + d))
+  key-held (keyUp ∷ calls) n = rw add-zero (key-released calls n (min n 4294967295))
+
+  -- ---- the theorem
+
+  pub one-note : (calls : List Call) → reckonFrom r s atFirst calls .blocks ≡ firstFrames r s (keyOf r s calls) (framesOf (reckonFrom r s atFirst calls))
+  one-note calls =
+      let key : lastKey atFirst calls ≡ keyOf r s calls = rw zero-add at (key-held calls 0) in
+      rw key at (order-count (framesBy (lastKey atFirst calls)) 0 (reckonFrom r s atFirst calls .blocks) (blocks-are calls atFirst))

@@ -1,0 +1,41 @@
+-- Table P, every row computed from the definitions; the whole file is read by way of demand 2.
+-- Assumes nothing.
+use mathlib.Core.Path.{refl, ap}
+use Rattle.refusal.specs.Outcome.{gives}
+use Rattle.header.specs.Octaves.{totalSamples}
+use Rattle.header.proofs.OctaveLaws as octaves
+use Rattle.small_chunks.specs.Pan.{heldToUnity}
+use Rattle.level.specs.Level.{scaledBy, onTheWay}
+use Rattle.envelope.specs.Envelope.{levelAt}
+use Rattle.frame.specs.Frame.{faded, beforeSides, value, frameOf}
+use Rattle.fibonacci.proofs.Examples as fibonacci
+use Rattle.sides.specs.Sides.{lengthsSuit}
+use Rattle.path.specs.Path.{pathOf, loopPath, joinedLength, allValid}
+use Rattle.gains.specs.Gains.{gainsOf}
+use Rattle.gains.specs.Shares.{sharesOf}
+use Rattle.block.specs.Frames.{framesFrom, interleaved, sounding}
+use Rattle.fill_rules.specs.Rules.{firstHolding, fillRules}
+use Rattle.note.specs.Fill.{fillVoice}
+use Rattle.next_block.specs.Frame.{attackLevel, levelOf, frame}
+use Rattle.demands.specs.Reckoning.{reckonFrom}
+use Rattle.demands.specs.TableP.{TableP}
+use Rattle.demands.proofs.Demand2.{demand2}
+
+pub tableP : TableP
+unfolding levelAt onTheWay scaledBy value beforeSides faded gainsOf sharesOf reckonFrom fillVoice firstHolding fillRules totalSamples lengthsSuit allValid joinedLength framesFrom interleaved sounding frame frameOf pathOf loopPath levelOf attackLevel heldToUnity
+tableP = record {
+  up-and-down = ap gives fibonacci.rises;
+  held-above = ap gives fibonacci.held-high;
+  held-below = ap gives fibonacci.held-low;
+  one-byte = fibonacci.short;
+  one-up = fibonacci.one-up;
+  lower-of-two = fibonacci.tie-low;
+  none-written = fibonacci.none;
+  on-the-way = refl;
+  at-its-end = refl;
+  on-the-way-down = refl;
+  largest-total = octaves.largest-total;
+  octave-past-it = octaves.octave-past-it;
+  all-full = refl;
+  whole-file = rw (demand2 .example-read) refl;
+}

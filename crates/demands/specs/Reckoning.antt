@@ -1,0 +1,101 @@
+-- The reckoning of a list of calls: it is fed the file's bytes, what starting was given, and each call; its state is n and u alone.
+use Prim.Native.Nat.{ℕ, _+_, _/_, min}
+use mathlib.Core.Bool.{Bool, true, false, cond}
+use mathlib.Core.List.{List, [], _∷_, _++_}
+use lib.IntN.{ℤ}
+use lib.ListN.{length}
+use Rattle.refusal.specs.Outcome.{Outcome, gives, refuses, andThen}
+use Rattle.frame.specs.declared.Frame.{Frame}
+use Rattle.block.specs.Frames.{framesFrom, interleaved}
+use Rattle.fill_rules.specs.declared.«note_rules».Key.{Key}
+use Rattle.fill_rules.specs.declared.«note_rules».Key.the-variants.{Held, Released}
+use Rattle.note.specs.Fill.{fillVoice, answerOf}
+use Rattle.next_block.specs.Frame.{frame}
+use Rattle.note.specs.declared.Answer.{Answer}
+use Rattle.voice_read.specs.ReadVoice.{Reading, readVoice}
+
+-- a call: a fill with its number of places, or a key-up
+pub data Call : Type 0 where
+  fill : ℕ → Call
+  keyUp : Call
+
+-- what starting was given
+pub record Started : Type 0 where
+  pub octave : ℕ
+  pub step : ℕ
+  pub rate : ℕ
+
+-- what a list of calls puts out: every fill's answer, and the accepted fills' blocks, joined
+pub record PutOut : Type 0 where
+  pub answers : List Answer
+  pub blocks : List ℤ
+
+-- n, the frames put out, and u, the key-up frame; held while there is none
+pub record State : Type 0 where
+  pub n : ℕ
+  pub u : Key
+
+-- at first
+abbrev pub atFirst : State
+atFirst = record { n = 0; u = Held }
+
+-- a key-up sets u to the smaller of n and 4,294,967,295 if it was none
+abbrev pub setBy : Key → ℕ → Key
+setBy Held n = Released (min n 4294967295)
+setBy (Released u) n = Released u
+
+-- a fill of so many places: the next frames from frame n on, with key-up at u, or the number that turns it back
+abbrev pub fillOf : Reading → Started → State → ℕ → Outcome (List Frame)
+fillOf r s state places =
+    fillVoice (r .voice) (r .sides) (record { octave = s .octave; step = s .step; rate = s .rate; frames = state .n; key = state .u; places = places })
+
+-- n grows by the block; a fill turned back changes nothing
+abbrev pub grown : Outcome (List Frame) → State → State
+grown (gives block) state = record { n = state .n + length block; u = state .u }
+grown (refuses number) state = state
+
+-- a fill turned back puts out nothing
+abbrev pub putOut : Outcome (List Frame) → List ℤ
+putOut (gives block) = interleaved block
+putOut (refuses number) = []
+
+-- an answer and a block before what follows
+abbrev pub before : Answer → List ℤ → PutOut → PutOut
+before answer block later = record { answers = answer ∷ later .answers; blocks = block ++ later .blocks }
+
+-- the reckoning from a state on
+unfoldable pub reckonFrom : Reading → Started → State → List Call → PutOut
+reckonFrom r s state [] = record { answers = []; blocks = [] }
+reckonFrom r s state (fill places ∷ calls) =
+    before (answerOf (fillOf r s state places)) (putOut (fillOf r s state places)) (reckonFrom r s (grown (fillOf r s state places) state) calls)
+reckonFrom r s state (keyUp ∷ calls) = reckonFrom r s (record { n = state .n; u = setBy (state .u) (state .n) }) calls
+
+-- the reckoning, fed the file's bytes
+abbrev pub reckon : List ℕ → Started → List Call → Outcome PutOut
+reckon file s calls = andThen (readVoice file) (λ r. gives (reckonFrom r s atFirst calls))
+
+-- ---- the one note
+
+-- there is a key-up
+abbrev pub hasKeyUp : List Call → Bool
+hasKeyUp [] = false
+hasKeyUp (fill places ∷ calls) = hasKeyUp calls
+hasKeyUp (keyUp ∷ calls) = true
+
+-- the calls before the first key-up
+abbrev pub beforeKeyUp : List Call → List Call
+beforeKeyUp [] = []
+beforeKeyUp (fill places ∷ calls) = fill places ∷ beforeKeyUp calls
+beforeKeyUp (keyUp ∷ calls) = []
+
+-- how many frames a list puts out: two values for each
+abbrev pub framesOf : PutOut → ℕ
+framesOf p = length (p .blocks) / 2
+
+-- the key of the one note: released at the frames put out before the first key-up, or held throughout
+abbrev pub keyOf : Reading → Started → List Call → Key
+keyOf r s calls = cond (hasKeyUp calls) (Released (min (framesOf (reckonFrom r s atFirst (beforeKeyUp calls))) 4294967295)) Held
+
+-- its first d frames, as values
+abbrev pub firstFrames : Reading → Started → Key → ℕ → List ℤ
+firstFrames r s key d = interleaved (framesFrom (frame (r .voice) (r .sides) (s .octave) (s .step) (s .rate) key) 0 d)

@@ -1,0 +1,3 @@
+-- Laws that this crate's proofs and those above cite.
+pub mod RuleLaws
+pub mod SequenceLaws

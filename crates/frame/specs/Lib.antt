@@ -1,0 +1,2 @@
+-- The meaning of one frame.
+pub mod Frame

@@ -1,0 +1,3 @@
+-- Laws of the shares and the gains of a voice.
+pub mod SharesLaws
+pub mod GainsLaws

@@ -1,0 +1,3 @@
+-- The meaning of the gains of a voice.
+pub mod Shares
+pub mod Gains

@@ -1,0 +1,3 @@
+-- What each call makes of a note.
+pub mod Note
+pub mod Fill

@@ -1,0 +1,8 @@
+-- Laws of paths and of the runs along them.
+pub mod SegmentLaws
+pub mod AheadLaws
+pub mod LengthLaws
+pub mod OctavePathLaws
+pub mod PlaceLaws
+pub mod RunLaws
+pub mod TurnLaws

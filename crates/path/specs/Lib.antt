@@ -1,0 +1,3 @@
+-- The meaning of a path.
+pub mod Path
+pub mod Run

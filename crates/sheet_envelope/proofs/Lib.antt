@@ -1,0 +1,3 @@
+-- Laws that the proofs cite.
+pub mod PointLaws
+pub mod CursorLaws

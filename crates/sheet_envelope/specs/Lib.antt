@@ -1,0 +1,2 @@
+-- The meaning of a cursor on an envelope.
+pub mod Cursor

@@ -1,0 +1,41 @@
+-- Notes as they cross to C: whether one is released, and the key-up's frame, which is 0 while it is held.
+use Prim.Native.Nat.{ℕ}
+use mathlib.Core.Bool.{Bool, true, false, cond}
+use Rattle.fill_rules.specs.declared.«note_rules».Key.{Key}
+use Rattle.fill_rules.specs.declared.«note_rules».Key.the-variants.{Held, Released}
+use Rattle.note.specs.declared.Note.{Note}
+use Rattle.note.specs.declared.Answer.{Answer}
+use Rattle.note.specs.declared.Answer.the-variants.{Sounding, Refused}
+use Rattle.svx.specs.declared.notes.SvxNote.{SvxNote}
+
+-- released at a frame, or held: then the frame is ignored
+abbrev pub keyOf : Bool → ℕ → Key
+keyOf released frame = cond released (Released frame) Held
+
+-- the note that was handed in
+abbrev pub noteOf : SvxNote → Note
+noteOf n = record { octave = n .octave; step = n .step; rate = n .rate; frames = n .frames; key = keyOf (n .released) (n .«key_up») }
+
+-- that it is released
+abbrev pub releasedOf : Key → Bool
+releasedOf Held = false
+releasedOf (Released u) = true
+
+-- and where; 0 while it is held
+abbrev pub frameOf : Key → ℕ
+frameOf Held = 0
+frameOf (Released u) = u
+
+-- the note that is handed back
+abbrev pub shapeOf : Note → SvxNote
+shapeOf n = record { octave = n .octave; step = n .step; rate = n .rate; frames = n .frames; released = releasedOf (n .key); «key_up» = frameOf (n .key) }
+
+-- the refusal of a fill, or 0
+abbrev pub refusalOf : Answer → ℕ
+refusalOf (Sounding count) = 0
+refusalOf (Refused number) = number
+
+-- how many frames weren't over; 0 where refused
+abbrev pub soundingOf : Answer → ℕ
+soundingOf (Sounding count) = count
+soundingOf (Refused number) = 0
