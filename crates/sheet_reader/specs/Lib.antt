@@ -1,0 +1,3 @@
+-- The meaning of a reader's steps.
+pub mod Steps
+pub mod Walked
