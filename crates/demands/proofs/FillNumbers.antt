@@ -1,13 +1,13 @@
 -- The numbers by which a fill is refused: only where a rule with that number holds, and on a read voice only by some.
 -- Assumes nothing.
-use Prim.Native.Nat.{ℕ, zero, suc, _+_, _^_, min}
+use Prim.Native.Nat.{ℕ, zero, suc, _^_, min}
 use mathlib.Core.Bool.{Bool, true, false, cond, not}
 use mathlib.Core.List.{List, [], _∷_}
 use mathlib.Core.Logic.{_⊎_, inl, inr}
-use mathlib.Core.Path.{_≡_, refl, ap, _∙_}
+use mathlib.Core.Path.{_≡_, refl, ap}
 use native.Mathlib.Omega.{arith}
-use borrow.Author.Tests.{eqb-true, eqb-false, ltb-false, le-ltb, lt-leb}
-use lib.Dec.{eqb, ltb}
+use borrow.Author.Tests.{lt-leb}
+use lib.Dec.{ltb}
 use lib.ListN.{length}
 use Rattle.laws.proofs.Cases.{impossible}
 use Rattle.refusal.specs.Outcome.{Outcome, gives, refuses}
@@ -24,13 +24,11 @@ use Rattle.sheet.specs.declared.judge.Judged.{Judged}
 use Rattle.sheet.specs.declared.judge.Judged.the-variants as judged
 use Rattle.sides.specs.Sides.{Sides}
 use Rattle.frame.specs.declared.Frame.{Frame}
-use Rattle.fill_rules.specs.Rules.{Rule, Holds, NoneHolds, firstHolding, keyUpAhead, fillRules}
-use Rattle.fill_rules.specs.declared.«note_rules».Key.{Key}
-use Rattle.fill_rules.specs.declared.«note_rules».Key.the-variants.{Held, Released}
+use Rattle.fill_rules.specs.Rules.{Rule, Holds, NoneHolds, keyUpAhead, fillRules}
 use Rattle.fill_rules.specs.declared.«note_rules».Request.{Request}
-use Rattle.fill_rules.proofs.RuleLaws.{none-holds, first-holds, rules-are, rules-numbered}
-use Rattle.note.specs.Fill.{unlessRefused, fillVoice, fillSheet, answerOf}
-use Rattle.note.proofs.BlockLaws.{not-ahead, never-ahead}
+use Rattle.fill_rules.proofs.RuleLaws.{rules-are, not-ahead, never-ahead}
+use Rattle.note.specs.Fill.{fillVoice, fillSheet, answerOf}
+use Rattle.note.proofs.FillLaws.{rulesOf, rule-holds, no-rule}
 use Rattle.voice_read.specs.ReadVoice.{Reading, readVoice}
 use Rattle.demands.specs.Demand1.{Among, fillNumbers}
 use Rattle.demands.specs.Demand2.{Acceptable}
@@ -40,36 +38,6 @@ use Rattle.demands.proofs.NumberLaws.{isOneOf, one-of, Within}
 use Rattle.demands.proofs.WriteNumbers.{if-sound-within}
 use Rattle.demands.proofs.Accepted.{read-sound}
 use Rattle.demands.proofs.Played.{Behind, behind-key-up, behind-fill}
-
--- ---- a fill of a voice
-
--- a number other than 0 turns a value back, and nothing else does
-by-number : {A : Type 0} (number n : ℕ) (a : A) → unlessRefused number a ≡ refuses n → (n ≡ 0 → ⊥) × (number ≡ n)
-by-number {A} number n a = go (eqb number 0) refl
-  where
-    go : (t : Bool) → eqb number 0 ≡ t → _≡_ {A = Outcome A} (cond t (gives a) (refuses number)) (refuses n) → (n ≡ 0 → ⊥) × (number ≡ n)
-    go true t e = impossible cc
-    go false t e = let same : number ≡ n = cc in (λ z. eqb-false number 0 t (same ∙ z), same)
-
-by-zero : {A : Type 0} (number : ℕ) (a b : A) → unlessRefused number a ≡ gives b → number ≡ 0
-by-zero {A} number a b = go (eqb number 0) refl
-  where
-    go : (t : Bool) → eqb number 0 ≡ t → _≡_ {A = Outcome A} (cond t (gives a) (refuses number)) (gives b) → number ≡ 0
-    go true t e = eqb-true number 0 t
-    go false t e = impossible cc
-
--- the rules of a fill
-abbrev rulesOf : Voice → Sides → Request → List Rule
-rulesOf v s r = fillRules v (length (s .left)) (length (s .right)) r
-
-module _ (v : Voice) (s : Sides) (r : Request) where
-  rule-holds : (n : ℕ) → fillVoice v s r ≡ refuses n → Holds n (rulesOf v s r)
-  unfolding fillVoice
-  rule-holds n e = let w = by-number (firstHolding (rulesOf v s r)) n _ e in first-holds (rulesOf v s r) n (w .0) (w .1)
-
-  no-rule : (block : List Frame) → fillVoice v s r ≡ gives block → NoneHolds (rulesOf v s r)
-  unfolding fillVoice
-  no-rule block e = none-holds (rulesOf v s r) (rules-numbered v (length (s .left)) (length (s .right)) r) (by-zero (firstHolding (rulesOf v s r)) _ block e)
 
 -- ---- a fill of a sheet
 

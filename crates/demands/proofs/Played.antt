@@ -17,10 +17,11 @@ use Rattle.sheet.specs.Flat.{flat}
 use Rattle.frame.specs.declared.Frame.{Frame}
 use Rattle.fill_rules.specs.declared.«note_rules».Key.{Key}
 use Rattle.fill_rules.specs.declared.«note_rules».Key.the-variants.{Held, Released}
+use Rattle.fill_rules.proofs.RuleLaws.{NotAhead, never-ahead}
 use Rattle.note.specs.Fill.{fillSheet, answerOf, noteAfter}
 use Rattle.note.specs.Note.{startOf, keyUpOf, requestOf}
 use Rattle.note.specs.declared.Note.{Note}
-use Rattle.note.proofs.BlockLaws.{NotAhead, never-ahead, block-capped}
+use Rattle.note.proofs.BlockLaws.{block-capped}
 use Rattle.voice_read.specs.Parsed.{answerOf as parsedOf, lengthsOf, fits, after}
 use Rattle.voice_read.specs.ReadVoice.{Reading, readVoice}
 use Rattle.voice_read.specs.declared.chunks.Lengths.{Lengths}

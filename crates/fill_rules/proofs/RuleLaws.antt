@@ -6,18 +6,24 @@
 --     none-holds, first-holds      none holds where it is 0, else one with that number does
 --     rules-are, none-of-three     the rules of a fill: the voice's, the sequence's, the note's
 --     voice-first .. note-first    the first of them
+--     NotAhead .. never-ahead      a key-up that isn't ahead of the frames filled
+--     capped, rules-capped         from past 4,294,967,295 frames on the rules of a fill stay as they are there
 -- Assumes nothing.
-use Prim.Native.Nat.{ℕ}
+use Prim.Native.Nat.{ℕ, _≤_, min}
 use mathlib.Core.Bool.{Bool, true, false, cond, not, _&&_}
 use mathlib.Core.List.{List, [], _∷_, _++_}
 use mathlib.Core.Logic.{inl, inr}
 use mathlib.Core.Path.{_≡_, refl, sym, _∙_}
+use native.Mathlib.Omega.{arith}
+use borrow.Author.Tests.{le-ltb}
 use lib.Dec.{T, eqb}
 use lib.Ieee.Fits.{and-l, and-r}
 use lib.ListN.{drop}
 use Rattle.sheet.specs.Allowed.{All}
 use Rattle.sheet.specs.Voice.{Voice}
-use Rattle.fill_rules.specs.Rules.{Rule, firstHolding, Holds, NoneHolds, voiceRules, sequenceRules, speedRules, noteRules, fillRules}
+use Rattle.fill_rules.specs.Rules.{Rule, firstHolding, Holds, NoneHolds, keyUpAhead, voiceRules, sequenceRules, speedRules, noteRules, fillRules}
+use Rattle.fill_rules.specs.declared.«note_rules».Key.{Key}
+use Rattle.fill_rules.specs.declared.«note_rules».Key.the-variants.{Held, Released}
 use Rattle.fill_rules.specs.declared.«note_rules».Request.{Request}
 
 -- no rule has the number 0
@@ -135,3 +141,28 @@ module _ (v : Voice) (left right : ℕ) (r : Request) where
       let voice = none-parts (voiceRules v left right) (sequenceRules v (r .octave) ++ noteRules (v .header) r) (rw rules-are at none) in
       let rest = none-parts (sequenceRules v (r .octave)) (noteRules (v .header) r) (voice .1) in
       (voice .0, rest .0, rest .1)
+
+-- ---- the frames filled
+
+-- the key-up frame is at most so many
+abbrev pub NotAhead : Key → ℕ → Type 0
+NotAhead Held frames = Unit
+NotAhead (Released u) frames = u ≤ frames
+
+pub not-ahead : (key : Key) (frames : ℕ) → NotAhead key frames → keyUpAhead key frames ≡ false
+not-ahead Held frames h = refl
+not-ahead (Released u) frames h = le-ltb frames u h
+
+pub never-ahead : (key : Key) (n m : ℕ) → n ≤ m → NotAhead key n → NotAhead key m
+never-ahead Held n m le h = tt
+never-ahead (Released u) n m le h = omega arith
+
+-- a request from past 4,294,967,295 frames, from there instead
+abbrev pub capped : Request → Request
+capped r = record { octave = r .octave; step = r .step; rate = r .rate; frames = min (r .frames) 4294967295; key = r .key; places = r .places }
+
+pub rules-capped : (v : Voice) (left right : ℕ) (r : Request) → NotAhead (r .key) (min (r .frames) 4294967295) → fillRules v left right (capped r) ≡ fillRules v left right r
+unfolding fillRules
+rules-capped v left right r h =
+    let cap = min (r .frames) 4294967295 in
+    rw (not-ahead (r .key) cap h, not-ahead (r .key) (r .frames) (never-ahead (r .key) cap (r .frames) (omega arith) h))

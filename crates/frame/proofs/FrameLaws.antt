@@ -10,19 +10,15 @@ use borrow.Author.Tests.{leb-true}
 use lib.Dec.{leb}
 use lib.IntN.{ℤ, pos, _*ℤ_}
 use lib.ListN.{getD}
-use mir.Syntax.{Width, w8, w16}
+use mir.Syntax.{w8, w16}
 use mir.Val.{SFits}
 use Rattle.laws.proofs.Signed.{zarith, known, times}
 use Rattle.level.specs.Level.{scaledBy}
-use Rattle.level.proofs.ScaleLaws.{scaled-parts}
+use Rattle.level.proofs.ScaleLaws.{scaled-fits}
 use Rattle.frame.specs.declared.Gains.{Gains}
 use Rattle.frame.specs.Frame.{faded, beforeSides, value, silent, frameOf}
 
 -- ---- a value stays a 16-bit one
-
--- at every width: a factor that is at most the divisor leaves a value that fits
-pub scaled-fits : {w : Width} (x : ℤ) (n d : ℕ) → n ≤ d → SFits w x → SFits w (scaledBy x n d)
-scaled-fits x n d h f = omega (zarith, known f, scaled-parts x n d h)
 
 pub faded-fits : (g : Gains) (q : ℕ) (x : ℤ) → SFits w16 x → SFits w16 (faded g q x)
 unfolding faded

@@ -8,14 +8,14 @@
 --     fade-sequence                  the segments that a fade needs
 --     octave-length                  the length of segments in an octave, as the code computes it
 -- Assumes nothing.
-use Prim.Native.Nat.{ℕ, _*_, _%_, _≤_, _<_, _^_, min}
+use Prim.Native.Nat.{ℕ, _*_, _≤_, _<_, _^_, min}
 use mathlib.Core.Bool.{Bool, true, false}
 use mathlib.Core.List.{List}
 use mathlib.Core.Option.{Option, none, some}
 use mathlib.Core.Path.{_≡_, refl, sym, ap, _∙_}
-use native.Mathlib.Nat.{one-mul, mul-le-mul-left}
+use native.Mathlib.Nat.{mul-le-mul-left}
 use native.Mathlib.Omega.{arith}
-use lib.Pow.{shl-exact, pow-pos}
+use lib.Pow.{pow-pos}
 use Rattle.laws.proofs.Cases.{impossible}
 use Rattle.small_chunks.specs.declared.sequence.Fade.{Fade}
 use Rattle.small_chunks.specs.declared.sequence.SeqnSegment.{SeqnSegment}
@@ -115,14 +115,10 @@ fade-sequence v k f ss read e fits = go (v .sequence) refl (rw e at fits)
 
 -- ---- the length in octave k
 
--- a shift by fewer than 64 bits is a power of two
-power-of-two : (k : ℕ) → k < 64 → 1 * 2 ^ k % 2 ^ 64 ≡ 2 ^ k
-power-of-two k h = shl-exact {a = 1} 1 k 64 (omega arith) (omega arith) ∙ one-mul (2 ^ k)
-
 -- where the path in octave k is under 2^32 long, so is it in the highest octave, and the length held to 2^32 is the length
-pub octave-length : (k n : ℕ) (ss : List SeqnSegment) → k < 64 → joinedLength (2 ^ k) ss < 2 ^ 32 → n ≡ min (joinedLength 1 ss) (2 ^ 32) → n * (1 * 2 ^ k % 2 ^ 64) ≡ joinedLength (2 ^ k) ss
-octave-length k n ss h short e =
+pub octave-length : (k scale n : ℕ) (ss : List SeqnSegment) → scale ≡ 2 ^ k → joinedLength (2 ^ k) ss < 2 ^ 32 → n ≡ min (joinedLength 1 ss) (2 ^ 32) → n * scale ≡ joinedLength (2 ^ k) ss
+octave-length k scale n ss is short e =
     let scaled = scaled-length (2 ^ k) ss in
     let more : joinedLength 1 ss * 1 ≤ joinedLength 1 ss * 2 ^ k = mul-le-mul-left (joinedLength 1 ss) (pow-pos k) in
     let same : n ≡ joinedLength 1 ss = omega (arith, e, short, scaled, more) in
-    rw (power-of-two k h, same) (sym scaled)
+    rw (is, same) (sym scaled)

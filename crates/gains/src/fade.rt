@@ -1,5 +1,6 @@
 // The fade of a sequence.
 use frame::Gains;
+use path::power_of_two;
 use path::sequence_length;
 use small_chunks::Fade;
 ghost use mathlib.Core.Path.{_≡_};
@@ -13,7 +14,7 @@ pub(crate) fn with_fade(g: Gains, f: Fade, segments: &[u8], k: u8) -> Gains
     requires { ⌜ (k < 64) × Whole 8 8 (now segments) × (joinedLength (2 ^ k) (segmentsIn (now segments)) < 2 ^ 32) ⌝ }
     ensures { λ r. ⌜ r ≡ withFade g f (segmentsIn (now (segments .entry))) k ⌝ }
 {
-    let scale: usize = 1 << k;
+    let scale = power_of_two(k);
     let fade_start = sequence_length(segments, f.segment as usize) * scale;
     let path_length = sequence_length(segments, segments.len()) * scale;
     Gains {

@@ -1,12 +1,13 @@
 -- How the octaves' lengths add up, when their total is refused, and what the code's factor and quotient are.
 --     octave-next      octave k starts where the ones before it end
+--     octave-end       each octave ends within the total
 --     total-refused    the total is refused exactly if it is 2 ^ 64 or more
 -- Assumes nothing.
 use Prim.Native.Nat.{ℕ, _+_, _-_, _*_, _/_, _%_, _^_, _≤_, _<_, min}
 use mathlib.Core.Bool.{Bool, true, false, cond}
 use mathlib.Core.Logic.{_↔_}
 use mathlib.Core.Path.{_≡_, refl, sym, ap, ap₂, _∙_}
-use native.Mathlib.Nat.{mul-add, pow-suc, zero-mul, mul-le-mul, le-div-iff-mul-le, div-lt-iff-lt-mul}
+use native.Mathlib.Nat.{mul-add, pow-suc, zero-mul, mul-le-mul, mul-le-mul-left, le-div-iff-mul-le, div-lt-iff-lt-mul}
 use native.Mathlib.Numerals.{add-one}
 use native.Mathlib.Omega.{arith}
 use borrow.Author.Tests.{lt-ltb, le-ltb, ltb-true, ltb-false}
@@ -28,10 +29,18 @@ module _ (h : VoiceHeader) (n k : ℕ) where
   octave-absent l = rw (le-ltb k (min 64 (octaves h)) l)
 
 -- octave k starts where the ones before it end: the lengths of the first k, and octave k's, are those of the first k + 1
-pub octave-next : (h : VoiceHeader) (k : ℕ) → hi h * (2 ^ k - 1) + hi h * 2 ^ k ≡ hi h * (2 ^ (k + 1) - 1)
+octave-next : (h : VoiceHeader) (k : ℕ) → hi h * (2 ^ k - 1) + hi h * 2 ^ k ≡ hi h * (2 ^ (k + 1) - 1)
 octave-next h k =
     let e : 2 ^ k - 1 + 2 ^ k ≡ 2 ^ (k + 1) - 1 = rw (add-one k, pow-suc 2 k) (omega (arith, pow-pos k)) in
     sym (mul-add (hi h) (2 ^ k - 1) (2 ^ k)) ∙ ap (λ (x : ℕ). hi h * x) e
+
+-- each octave ends within the total
+pub octave-end : (h : VoiceHeader) (k : ℕ) → k < octaves h → hi h * (2 ^ k - 1) + hi h * 2 ^ k ≤ totalSamples h
+unfolding totalSamples
+octave-end h k l =
+    let p : 2 ^ (k + 1) ≤ 2 ^ octaves h = pow-mono (rw add-one l) in
+    let q : 2 ^ (k + 1) - 1 ≤ 2 ^ octaves h - 1 = omega arith in
+    rw (octave-next h k) (mul-le-mul-left (hi h) q)
 
 -- ---- when the total is refused
 

@@ -5,7 +5,7 @@ use Prim.Native.Nat.{ℕ, _-_, _*_, _/_, _≤_}
 use native.Mathlib.Nat.{div-le-of-le-mul, mul-le-mul-left, mul-le-mul-right}
 use native.Mathlib.Omega.{arith}
 use lib.IntN.{ℤ, pos, _-ℤ_, _*ℤ_}
-use mir.Syntax.{w32}
+use mir.Syntax.{Width, w32}
 use mir.Val.{SFits}
 use Rattle.laws.proofs.Signed.{up, dn, zarith, known, apart, sum, diff, times, quot}
 use Rattle.level.specs.Level.{scaledBy, onTheWay}
@@ -29,6 +29,10 @@ scaled-parts x n d h =
       below = rw (q .below, t .below) (part (dn x) n d h);
       one-is-zero = apart (scaledBy x n d);
     }
+
+-- so, at every width, a number that fits still fits when it is scaled
+pub scaled-fits : {w : Width} (x : ℤ) (n d : ℕ) → n ≤ d → SFits w x → SFits w (scaledBy x n d)
+scaled-fits x n d h f = omega (zarith, known f, scaled-parts x n d h)
 
 -- a product of a bounded number
 pub bounded : (a n b : ℕ) → a ≤ b → a * n ≤ b * n

@@ -11,16 +11,15 @@ use mathlib.Core.List.{List}
 use mathlib.Core.Logic.{_⊎_, inl, inr}
 use mathlib.Core.Option.{Option, none, some}
 use mathlib.Core.Path.{_≡_, refl, sym}
-use native.Mathlib.Nat.{zero-mul, mul-le-mul, le-refl}
+use native.Mathlib.Nat.{zero-mul}
 use native.Mathlib.Omega.{arith}
 use borrow.Author.Tests.{ltb-true, ltb-false, leb-true, leb-false, eqb-true, eqb-false, not-false}
 use lib.Dec.{eqb, ltb, leb}
 use lib.ListN.{length}
-use lib.Pow.{pow-mono}
 use Rattle.laws.proofs.Cases.{impossible, neither}
 use Rattle.header.specs.Octaves.{hi, octaves, totalSamples}
 use Rattle.header.specs.declared.«voice_header».VoiceHeader.{VoiceHeader}
-use Rattle.header.proofs.OctaveLaws.{octave-next, many-octaves, product}
+use Rattle.header.proofs.OctaveLaws.{octave-end, many-octaves}
 use Rattle.small_chunks.specs.declared.sequence.Fade.{Fade}
 use Rattle.small_chunks.specs.declared.sequence.SeqnSegment.{SeqnSegment}
 use Rattle.sheet.specs.Voice.{Voice, isStereo}
@@ -28,7 +27,7 @@ use Rattle.sides.specs.Sides.{lengthsSuit}
 use Rattle.sides.proofs.SideLaws.{suit-parts}
 use Rattle.path.specs.Path.{pathOf, joinedLength, allValid}
 use Rattle.path.specs.Run.{InOctave}
-use Rattle.path.proofs.LengthLaws.{path-ends, valid-order}
+use Rattle.path.proofs.LengthLaws.{sequence-ends, valid-order}
 use Rattle.gains.specs.Gains.{gainsOf, FadeOn, FadeFits}
 use Rattle.gains.proofs.GainsLaws.{gains-fade, gains-no-fade}
 use Rattle.fill_rules.specs.Rules.{firstHolding, NoneHolds, octaveThere, segmentsOf, fadeMisses, keyUpAhead, voiceRules, sequenceRules, noteRules, fillRules}
@@ -65,11 +64,7 @@ module _ (h : VoiceHeader) (k n : ℕ) where
 
   octave-within : OctaveOf h k n → hi h * (2 ^ k - 1) + hi h * 2 ^ k ≤ n
   octave-within (inl (z, e)) = simp (z, zero-mul) (omega arith)
-  octave-within (inr a) =
-      let below : k + 1 ≤ octaves h = omega (arith, a .below) in
-      let p : 2 ^ (k + 1) ≤ 2 ^ octaves h = pow-mono below in
-      let q : 2 ^ (k + 1) - 1 ≤ 2 ^ octaves h - 1 = omega arith in
-      omega (arith, octave-next h k, mul-le-mul {n₁ = hi h} (le-refl (hi h)) q, product h (hi h) (2 ^ octaves h - 1) refl refl, a .all)
+  octave-within (inr a) = omega (arith, octave-end h k (a .below), a .all)
 
   octave-sole : OctaveOf h k n → hi h ≡ 0 → k ≡ 0
   octave-sole (inl (z, e)) empty = e
@@ -82,11 +77,6 @@ fade-among : (fade : Option Fade) (sequence : Option (List SeqnSegment)) (k : �
 fade-among none sequence k among short = tt
 fade-among (some f) (some segments) k among short = short
 fade-among (some f) none k among short = absurd (omega (arith, ltb-true (f .segment) 0 (not-false (ltb (f .segment) 0) among)))
-
--- a step of a sequence that has a place lies before the path's end
-sequence-ends : (segments : List SeqnSegment) (h : VoiceHeader) (n k q i : ℕ) → pathOf (some segments) h n k q ≡ some i → q < joinedLength (2 ^ k) segments
-unfolding pathOf
-sequence-ends segments h n k q i e = path-ends (hi h * (2 ^ k - 1)) (2 ^ k) segments q i e
 
 pub fade-ends : (v : Voice) (n k : ℕ) → gainsOf v k .fades ≡ true → (q i : ℕ) → pathOf (v .sequence) (v .header) n k q ≡ some i → q < gainsOf v k .«path_length»
 fade-ends v n k fades q i = go (v .sequence) refl

@@ -11,20 +11,19 @@ use Prim.Native.Nat.{ℕ, _+_, _-_, _*_, _/_, _^_, _≤_, _<_}
 use mathlib.Core.Bool.{Bool, true, false, cond}
 use mathlib.Core.List.{List, _++_}
 use mathlib.Core.Path.{_≡_, refl, ap, ap₂, _∙_}
-use native.Mathlib.Nat.{add-comm, add-zero, mul-add, mul-le-mul, le-refl, le-div-iff-mul-le, div-lt-iff-lt-mul}
-use native.Mathlib.Numerals.{add-one}
+use native.Mathlib.Nat.{add-comm, add-zero, mul-add, le-div-iff-mul-le, div-lt-iff-lt-mul}
 use native.Mathlib.Omega.{arith}
 use borrow.Author.Tests.{lt-ltb, le-ltb, le-leb, lt-leb, eq-eqb, ne-eqb, leb-true, eqb-true}
 use lib.Dec.{eqb, ltb, leb}
 use lib.IntN.{ℤ}
 use lib.ListN.{length, take, drop, length-drop, take-append-drop}
-use lib.Pow.{pow-pos, pow-mono}
+use lib.Pow.{pow-pos}
 use lib.Seq.{take-all}
 use Rattle.header.specs.Octaves.{hi, octaves, inOctave, totalSamples}
 use Rattle.header.specs.declared.«voice_header».VoiceHeader.{VoiceHeader}
 use Rattle.header.specs.declared.«voice_header».SampleCount.{SampleCount}
 use Rattle.header.specs.declared.«voice_header».SampleCount.the-variants as count
-use Rattle.header.proofs.OctaveLaws.{octave-next, product}
+use Rattle.header.proofs.OctaveLaws.{octave-end}
 use Rattle.sheet.specs.Judge.{judged}
 use Rattle.sheet.specs.Read.{readSheet}
 use Rattle.sheet.specs.Voice.{isStereo}
@@ -84,10 +83,7 @@ module _ (h : VoiceHeader) (n k : ℕ) where
 
     -- in a side that has all samples, each octave is there
     pub octave-there : k < octaves h → totalSamples h ≤ n → octavePart h n k ≡ At (hi h * (2 ^ k - 1)) (hi h * 2 ^ k)
-    octave-there l r =
-        let p : 2 ^ (k + 1) ≤ 2 ^ octaves h = pow-mono (rw add-one l) in
-        let q : 2 ^ (k + 1) - 1 ≤ 2 ^ octaves h - 1 = omega arith in
-        octave-at l (omega (arith, octave-next h k, mul-le-mul {n₁ = hi h} (le-refl (hi h)) q, product h (hi h) (2 ^ octaves h - 1) refl refl))
+    octave-there l r = octave-at l (omega (arith, octave-end h k l))
 
   pub octave-within : Within (octavePart h n k) n
   unfolding octavePart

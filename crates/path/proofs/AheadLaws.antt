@@ -10,7 +10,6 @@ use mathlib.Core.Option.{none, some}
 use mathlib.Core.Path.{_≡_, sym, subst, _∙_}
 use native.Mathlib.Nat.{mul-le-mul-right, mul-sub, mul-comm}
 use native.Mathlib.Omega.{arith}
-use borrow.Author.Tests.{lt-ltb, le-ltb}
 use lib.ListN.{length, drop}
 use Rattle.small_chunks.specs.Sequence.{segmentOf, segmentLength}
 use Rattle.small_chunks.specs.declared.sequence.SeqnSegment.{SeqnSegment}
@@ -19,6 +18,7 @@ use Rattle.path.specs.Path.{segmentsPath}
 use Rattle.path.specs.Run.{placeOf, Within, Sane, Good, Reached}
 use Rattle.path.specs.declared.run.Path.{Path}
 use Rattle.path.specs.declared.run.Run.{Run}
+use Rattle.path.proofs.LengthLaws.{steps-none, steps-here, steps-past}
 use Rattle.path.proofs.SegmentLaws.{Stands, stands-next, segments-same, segments-end, segment-here, segment-long, segment-past}
 
 -- ---- a list of segments ahead
@@ -35,8 +35,7 @@ pub record Ends (p : Path) (s : SeqnSegment) : Type 0 where
 
 module _ {p : Path} {part : List ℕ} {until : ℕ} where
   ahead-none : Ahead p part until [] → (q : ℕ) → until ≤ q → placeOf p part q ≡ none
-  unfolding segmentsPath
-  ahead-none a q g = a .later q g
+  ahead-none a q g = a .later q g ∙ steps-none (p .first) (p .scale) (q - until)
 
   module _ {s : SeqnSegment} {ss : List SeqnSegment} (a : Ahead p part until (s ∷ ss)) where
     pub ends : Ends p s
@@ -47,18 +46,15 @@ module _ {p : Path} {part : List ℕ} {until : ℕ} where
 
     module _ (past : ℕ) (e : past ≡ until + (s .end * p .scale - s .start * p .scale)) where
       ahead-here : (q : ℕ) → until ≤ q → q < past → placeOf p part q ≡ some (p .first + s .start * p .scale + (q - until))
-      unfolding segmentsPath
-      ahead-here q g h = a .later q g ∙ rw (lt-ltb (q - until) (segmentLength s * p .scale) (omega (arith, length-is)))
+      ahead-here q g h = a .later q g ∙ steps-here (p .first) (p .scale) s ss (q - until) (omega (arith, length-is))
 
       ahead-past : Ahead p part past ss
-      unfolding segmentsPath
       ahead-past =
           record {
             fit = a .fit .2;
             later = λ q g.
-                let n = segmentLength s * p .scale in
-                let left : q - until - n ≡ q - past = omega (arith, length-is) in
-                a .later q (omega arith) ∙ rw (le-ltb (q - until) n (omega (arith, length-is)), left);
+                let left : q - until - segmentLength s * p .scale ≡ q - past = omega (arith, length-is) in
+                a .later q (omega arith) ∙ steps-past (p .first) (p .scale) s ss (q - until) (omega (arith, length-is)) ∙ rw left;
           }
 
 -- ---- the segments from a place of the part on
@@ -74,12 +70,11 @@ module _ {p : Path} {part : List ℕ} {q : ℕ} where
   rest-next : {until at : ℕ} (next : ℕ) → at ≤ length part → Whole 8 8 (drop at part) → Ahead p part until (segmentsIn (drop at part)) → until ≤ q
       → next ≡ nextMember 8 at part → Rest p part q until next
   rest-next {until} {at} next inside whole a passed e =
-      rw e
-      (record {
-        stands = stands-next part at inside whole;
+      record {
+        stands = stands-next part at e inside whole;
         passed = passed;
-        ahead = subst (Ahead p part until) (sym (segments-same part at)) a;
-      })
+        ahead = subst (Ahead p part until) (sym (segments-same part at e)) a;
+      }
 
   -- from a run that is done
   pub rest-of : {r : Run} (at : ℕ) → Good p part r → p .sequence ≡ true → r .until ≤ q → at ≡ nextMember 8 (r .at) part

@@ -2,7 +2,8 @@
 --     scaled-length                                               offsets times `scale` make the length times `scale`
 --     length-take                                                 the first of them are no longer than all
 --     lengthFrom, from-start, from-none, from-end, from-first     their length up to 2^32, added up one by one
---     path-ends                                                   a step that has a place lies before the path's end
+--     steps-none, steps-here, steps-past                          where a step lies: nowhere, in the first of them, or in those after it
+--     path-ends, sequence-ends                                    a step that has a place lies before the path's end
 --     valid-all, valid-past, valid-refused                        none; one that is valid, or not, and those after it
 --     valid-order                                                 valid segments lie within the highest octave
 --     take-all-segments                                           a part has no more segments than bytes
@@ -10,24 +11,26 @@
 use Prim.Native.Nat.{ℕ, zero, suc, _+_, _-_, _*_, _≤_, _<_, _^_, min}
 use mathlib.Core.Bool.{Bool, true, false, cond, _&&_, and-eq-true-iff}
 use mathlib.Core.List.{List, [], _∷_}
-use mathlib.Core.Option.{some}
+use mathlib.Core.Option.{none, some}
 use mathlib.Core.Path.{_≡_, refl, sym, ap, _∙_}
 use native.Mathlib.Nat.{add-mul, mul-one, zero-mul}
 use native.Mathlib.Omega.{arith}
-use borrow.Author.Tests.{ltb-true, ltb-false, eqb-true, eqb-false}
+use borrow.Author.Tests.{lt-ltb, le-ltb, ltb-true, ltb-false, eqb-true, eqb-false}
 use lib.Dec.{ltb, eqb}
 use lib.ListN.{length, take, drop, length-map, length-drop}
 use lib.Seq.{take-all, take-nil}
 use Rattle.laws.proofs.Cases.{impossible}
 use Rattle.refusal.specs.Numbers.{segment}
+use Rattle.header.specs.declared.«voice_header».VoiceHeader.{VoiceHeader}
 use Rattle.small_chunks.specs.Sequence.{segmentLength, segmentValid, segmentVerdict}
 use Rattle.small_chunks.specs.declared.sequence.SeqnSegment.{SeqnSegment}
 use Rattle.small_chunks.specs.declared.sequence.Validity.the-variants.{Valid, Refused}
 use Rattle.small_chunks.proofs.SequenceLaws.{playable-of}
 use Rattle.layout.specs.Members.{membersIn, segmentsIn}
 use Rattle.layout.proofs.MemberLaws.{none-left, opener-passed, member-first}
-use Rattle.path.specs.Path.{segmentsPath, joinedLength, allValid}
+use Rattle.path.specs.Path.{segmentsPath, octaveStart, pathOf, joinedLength, allValid}
 use Rattle.path.specs.Run.{InOrder}
+use Rattle.path.proofs.OctavePathLaws.{path-sequence}
 
 -- ---- the length
 
@@ -82,7 +85,21 @@ from-first sum sum′ size n s ss h e e₂ = rw (length-first 1 n s ss h) (omega
 
 -- ---- the steps
 
-pub path-ends : (first scale : ℕ) (ss : List SeqnSegment) (q i : ℕ) → segmentsPath first scale ss q ≡ some i → q < joinedLength scale ss
+module _ (first scale : ℕ) where
+  pub steps-none : (q : ℕ) → segmentsPath first scale [] q ≡ none
+  unfolding segmentsPath
+  steps-none q = refl
+
+  module _ (s : SeqnSegment) (ss : List SeqnSegment) (q : ℕ) where
+    pub steps-here : q < segmentLength s * scale → segmentsPath first scale (s ∷ ss) q ≡ some (first + s .start * scale + q)
+    unfolding segmentsPath
+    steps-here h = rw (lt-ltb q (segmentLength s * scale) h)
+
+    pub steps-past : segmentLength s * scale ≤ q → segmentsPath first scale (s ∷ ss) q ≡ segmentsPath first scale ss (q - segmentLength s * scale)
+    unfolding segmentsPath
+    steps-past h = rw (le-ltb q (segmentLength s * scale) h)
+
+path-ends : (first scale : ℕ) (ss : List SeqnSegment) (q i : ℕ) → segmentsPath first scale ss q ≡ some i → q < joinedLength scale ss
 unfolding segmentsPath joinedLength
 path-ends first scale [] q i e = impossible cc
 path-ends first scale (s ∷ ss) q i e = go (path-ends first scale ss (q - segmentLength s * scale) i) (ltb q (segmentLength s * scale)) refl e
@@ -90,6 +107,10 @@ path-ends first scale (s ∷ ss) q i e = go (path-ends first scale ss (q - segme
     go : (segmentsPath first scale ss (q - segmentLength s * scale) ≡ some i → q - segmentLength s * scale < joinedLength scale ss) → (t : Bool) → ltb q (segmentLength s * scale) ≡ t → cond t (some (first + s .start * scale + q)) (segmentsPath first scale ss (q - segmentLength s * scale)) ≡ some i → q < segmentLength s * scale + joinedLength scale ss
     go later true t e = omega (arith, ltb-true q (segmentLength s * scale) t)
     go later false t e = omega (arith, ltb-false q (segmentLength s * scale) t, later e)
+
+-- of a voice's sequence in octave k
+pub sequence-ends : (segments : List SeqnSegment) (h : VoiceHeader) (n k q i : ℕ) → pathOf (some segments) h n k q ≡ some i → q < joinedLength (2 ^ k) segments
+sequence-ends segments h n k q i e = path-ends (octaveStart h k) (2 ^ k) segments q i (sym (path-sequence h n k q segments) ∙ e)
 
 -- ---- their validity
 

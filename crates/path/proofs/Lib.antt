@@ -3,6 +3,5 @@ pub mod SegmentLaws
 pub mod AheadLaws
 pub mod LengthLaws
 pub mod OctavePathLaws
-pub mod PlaceLaws
 pub mod RunLaws
 pub mod TurnLaws

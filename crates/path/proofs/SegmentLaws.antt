@@ -1,33 +1,22 @@
--- How the segments of a sequence lie in a part of a sheet. Nothing else here looks at the bytes.
---     segment-take                                   a segment is read off eight bytes alone
---     segments-same, segments-end                    the bytes before a segment hold none; none from the part's end on
---     Stands, stands-next                            a place where a segment begins, or the part's end
+-- How the segments of a sequence lie in a part of a sheet, from one place to the next. No other law of paths looks at the bytes.
+--     segments-end                                   none from the part's end on
+--     Stands, stands-next, segments-same             a place where a segment begins, or the part's end; the bytes before it hold none
 --     segment-here, segment-long, segment-past       at such a place: the segment, its bytes and those past it
---     stands-past                                    the next such place after it
+--     stands-past, past-after, past-segments         from such a place to the next: the segment and those from there on
 -- Assumes nothing.
-use Prim.Native.Nat.{ℕ, _+_, _-_, _≤_, _<_}
+use Prim.Native.Nat.{ℕ, _+_, _≤_, _<_}
 use mathlib.Core.List.{List, [], _∷_, map}
 use mathlib.Core.Path.{_≡_, ap, sym, subst, _∙_}
 use native.Mathlib.Omega.{arith}
-use lib.ListN.{length, getD, take, drop}
-use Rattle.laws.proofs.Prefix.{drop-take}
-use Rattle.field.proofs.BigEndianLaws.{number-take}
+use lib.ListN.{length, getD, drop}
 use Rattle.sheet.specs.Allowed.{All}
 use Rattle.small_chunks.specs.Sequence.{segmentOf}
-use Rattle.layout.specs.Members.{membersIn, segmentsIn, Whole, nextMember}
-use Rattle.layout.proofs.NextLaws.{next-within, next-stands, next-same, member-here, member-long, member-whole, members-end}
-
-pub segment-take : (l : List ℕ) → segmentOf (take 8 l) ≡ segmentOf l
-unfolding segmentOf
-segment-take l =
-    let h₄ : 4 ≤ 8 = omega arith in
-    let h₈ : 4 ≤ 8 - 4 = omega arith in
-    rw (number-take 4 8 l h₄, drop-take 4 8 l, number-take 4 (8 - 4) (drop 4 l) h₈)
+use Rattle.small_chunks.specs.declared.sequence.SeqnSegment.{SeqnSegment}
+use Rattle.small_chunks.proofs.FieldLaws.{segment-take}
+use Rattle.layout.specs.Members.{segmentsIn, Whole, nextMember}
+use Rattle.layout.proofs.NextLaws.{next-after, next-within, next-stands, next-same, member-here, member-long, member-whole, members-end}
 
 module _ (part : List ℕ) where
-  pub segments-same : (at : ℕ) → segmentsIn (drop (nextMember 8 at part) part) ≡ segmentsIn (drop at part)
-  segments-same at = ap (map segmentOf) (next-same 8 part at 8)
-
   pub segments-end : (at : ℕ) → length part ≤ at → segmentsIn (drop at part) ≡ []
   segments-end at past = ap (map segmentOf) (members-end 8 8 part at past)
 
@@ -37,14 +26,21 @@ module _ (part : List ℕ) where
     pub begins : at < length part → getD part at 0 ≡ 8
     pub whole : Whole 8 8 (drop at part)
 
-  pub stands-next : (at : ℕ) → at ≤ length part → Whole 8 8 (drop at part) → Stands (nextMember 8 at part)
-  stands-next at inside whole =
-      record {
-        inside = next-within 8 part at inside;
-        begins = next-stands 8 part at;
-        whole = subst (All (λ body. length body ≡ 8)) (sym (next-same 8 part at 8)) whole;
-      }
+  -- from any place on
+  module _ (at : ℕ) {next : ℕ} (is : next ≡ nextMember 8 at part) where
+    pub stands-next : at ≤ length part → Whole 8 8 (drop at part) → Stands next
+    stands-next inside whole =
+        rw is
+        (record {
+          inside = next-within 8 part at inside;
+          begins = next-stands 8 part at;
+          whole = subst (All (λ body. length body ≡ 8)) (sym (next-same 8 part at 8)) whole;
+        })
 
+    pub segments-same : segmentsIn (drop next part) ≡ segmentsIn (drop at part)
+    segments-same = ap (λ (n : ℕ). segmentsIn (drop n part)) is ∙ ap (map segmentOf) (next-same 8 part at 8)
+
+  -- from a segment on
   module _ {at : ℕ} (s : Stands at) (here : at < length part) where
     pub segment-here : segmentsIn (drop at part) ≡ segmentOf (drop (at + 1) part) ∷ segmentsIn (drop (at + 9) part)
     segment-here = ap (map segmentOf) (member-here 8 8 part at here (s .begins here)) ∙ rw (segment-take (drop (at + 1) part))
@@ -55,5 +51,12 @@ module _ (part : List ℕ) where
     pub segment-past : Whole 8 8 (drop (at + 9) part)
     segment-past = member-whole 8 8 part at here (s .begins here) (s .whole)
 
-    pub stands-past : Stands (nextMember 8 (at + 9) part)
-    stands-past = stands-next (at + 9) segment-long segment-past
+    module _ {next : ℕ} (is : next ≡ nextMember 8 (at + 9) part) where
+      pub stands-past : Stands next
+      stands-past = stands-next (at + 9) is segment-long segment-past
+
+      pub past-after : at < next
+      past-after = omega (arith, next-after 8 part (at + 9))
+
+      pub past-segments : (segment : SeqnSegment) → segment ≡ segmentOf (drop (at + 1) part) → segmentsIn (drop at part) ≡ segment ∷ segmentsIn (drop next part)
+      past-segments segment e = rw (e, segments-same (at + 9) is) segment-here

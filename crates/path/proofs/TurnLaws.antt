@@ -1,4 +1,5 @@
 -- The turns of a loop: the one-shot part and the first turn lie side by side, and so does each turn after them.
+--     loop-once                             a loop that is n samples once
 --     turn-first, turn-none, turn-later     the run that has step q: the first turn; none, without a repeat part; a later turn
 -- Assumes nothing.
 use Prim.Native.Nat.{ℕ, zero, suc, _+_, _-_, _*_, _/_, _%_, _≤_, _<_}
@@ -6,11 +7,11 @@ use mathlib.Core.Bool.{Bool, true, false, true≢false}
 use mathlib.Core.List.{List}
 use mathlib.Core.Option.{Option, none, some}
 use mathlib.Core.Path.{_≡_, refl, sym, ap, _∙_}
-use native.Mathlib.Nat.{mod-eq-of-lt, mod-lt, mod-add-div', add-mul-mod-self-right, sub-zero}
+use native.Mathlib.Nat.{mod-eq-of-lt, mod-lt, mod-add-div', add-mul-mod-self-right, zero-add, sub-zero}
 use native.Mathlib.Omega.{arith}
 use borrow.Author.Tests.{le-ltb, ltb-false, eq-eqb, ne-eqb}
 use lib.Dec.{ltb}
-use Rattle.path.specs.Path.{loopPath}
+use Rattle.path.specs.Path.{loopPath, samplesPath}
 use Rattle.path.specs.Run.{Sane, Reached}
 use Rattle.path.specs.declared.run.Path.{Path}
 use Rattle.path.proofs.RunLaws.{place-loop}
@@ -20,6 +21,11 @@ pos-of-ne zero h = absurd (h refl)
 pos-of-ne (suc n) h = omega arith
 
 -- ---- where the steps of a loop lie
+
+-- a one-shot part from the samples' start on, without a repeat part
+pub loop-once : (n q : ℕ) → loopPath 0 n 0 q ≡ samplesPath n q
+unfolding loopPath samplesPath
+loop-once n q = rw zero-add
 
 module _ (first one-shot repeat : ℕ) where
   loop-first : (u : ℕ) → u < one-shot + repeat → loopPath first one-shot repeat u ≡ some (first + u)

@@ -6,6 +6,7 @@ mod sequence;
 pub use run::Path;
 pub use run::Run;
 pub use run::path_of;
+pub use run::power_of_two;
 pub use run::run_start;
 pub use run::run_to;
 pub use sequence::sequence_length;

@@ -28,7 +28,8 @@ pub struct Run {
     pub start: usize,
 }
 
-fn power_of_two(k: u8) -> usize
+// How many times as long octave k is as octave 0.
+pub fn power_of_two(k: u8) -> usize
     requires { ⌜ k < 64 ⌝ }
     ensures { λ r. ⌜ r ≡ 2 ^ k ⌝ }
 {

@@ -1,6 +1,7 @@
 -- The four records and their bytes: how many they are, that what was written reads back whatever follows it, and that what was read writes back.
 --     point-length, segment-length, pan-length, fade-length     6, 8, 4 and 4
 --     point-back, segment-back, pan-back, fade-back             of a record whose fields fit, the bytes read as that record
+--     point-take, segment-take                                  a point or a segment is read off its own bytes alone
 --     point-again, segment-again, pan-again, fade-again         of bytes, the record writes as those bytes
 -- Each follows from the laws of one number (`number-back`, `number-bytes`), of one signed number (`signed-back`, `signed-again`) and of two numbers in a row.
 -- Assumes nothing.
@@ -57,6 +58,12 @@ two-again n k l h long =
     let second : k ≤ length (drop n l) = rw length-drop (omega arith) in
     rw (number-bytes n l h first, number-bytes k (drop n l) (bytes-drop n l h) second, take-add)
 
+-- what lies past the two is not read
+two-take : (n k : ℕ) (l : List ℕ) → (bigEndian n (take (n + k) l) ≡ bigEndian n l) × (bigEndian k (drop n (take (n + k) l)) ≡ bigEndian k (drop n l))
+two-take n k l =
+    let second : k ≤ n + k - n = omega arith in
+    (number-take n (n + k) l (omega arith), rw (drop-take n (n + k) l) (number-take k (n + k - n) (drop n l) second))
+
 -- ---- lengths
 
 pub point-length : (p : EgPoint) → length (pointBytes p) ≡ 6
@@ -101,10 +108,11 @@ fade-back f rest h = rw (number-back 4 (f .segment) rest h)
 
 pub point-take : (l : List ℕ) → pointOf (take 6 l) ≡ pointOf l
 unfolding pointOf
-point-take l =
-    let h₂ : 2 ≤ 6 = omega arith in
-    let h₄ : 4 ≤ 6 - 2 = omega arith in
-    rw (number-take 2 6 l h₂, drop-take 2 6 l, number-take 4 (6 - 2) (drop 2 l) h₄)
+point-take l = let t = two-take 2 4 l in rw (t .0, t .1)
+
+pub segment-take : (l : List ℕ) → segmentOf (take 8 l) ≡ segmentOf l
+unfolding segmentOf
+segment-take l = let t = two-take 4 4 l in rw (t .0, t .1)
 
 -- ---- what was read writes back
 

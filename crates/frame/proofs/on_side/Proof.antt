@@ -6,7 +6,7 @@ use mir.Val.{SFits, toZ, ofZ}
 use mir.Facts.{toZ-ofZ}
 use Rattle.laws.proofs.Signed.{back}
 use Rattle.level.specs.Level.{scaledBy}
-use Rattle.frame.proofs.FrameLaws.{scaled-fits}
+use Rattle.level.proofs.ScaleLaws.{scaled-fits}
 use Rattle.frame.proofs.on_side.Statement.{statement}
 use Rattle.frame.proofs.on_side.Tie as tie
 

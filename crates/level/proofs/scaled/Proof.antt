@@ -7,7 +7,7 @@ use mir.Val.{SFits, toZ, ofZ}
 use mir.Facts.{toZ-ofZ}
 use Rattle.laws.proofs.Signed.{zarith, known, abs-parts, widens, widened, back}
 use Rattle.level.specs.Level.{scaledBy}
-use Rattle.level.proofs.ScaleLaws.{scaled-parts, bounded}
+use Rattle.level.proofs.ScaleLaws.{scaled-fits, bounded}
 use Rattle.level.proofs.scaled.Statement.{statement}
 use Rattle.level.proofs.scaled.Tie as tie
 
@@ -15,7 +15,7 @@ x-is : (s : tie.Start) → toZ w64 (ofZ w64 (toZ w32 (ofZ w32 (s .args .x)))) �
 x-is s = widened w32 w64 tt (s .fits .x)
 
 fits : (s : tie.Start) → SFits w32 (scaledBy (s .args .x) (s .args .n) (s .args .d))
-fits s = omega (zarith, scaled-parts (s .args .x) (s .args .n) (s .args .d) (s .pre .0), known (s .fits .x))
+fits s = scaled-fits (s .args .x) (s .args .n) (s .args .d) (s .pre .0) (s .fits .x)
 
 result-is : (c : tie.After-scaled-wide) → toZ w64 (ofZ w64 (c .scaled-wide .result)) ≡ scaledBy (c .before .args .x) (c .before .args .n) (c .before .args .d)
 result-is c = back w64 (c .scaled-wide .ok) ∙ rw (x-is (c .before)) at (c .scaled-wide .ensures)

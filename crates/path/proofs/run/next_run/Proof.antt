@@ -5,8 +5,7 @@ use Prim.Native.Nat.{_+_, _-_, _≤_}
 use mathlib.Core.Path.{refl}
 use native.Mathlib.Omega.{arith}
 use lib.ListN.{length}
-use Rattle.layout.proofs.NextLaws.{next-after}
-use Rattle.path.proofs.SegmentLaws.{segment-long}
+use Rattle.path.proofs.SegmentLaws.{segment-long, past-after}
 use Rattle.path.proofs.AheadLaws.{Ends, ends, Rest, rest-of, rest-here, rest-past, rest-found, rest-end}
 use Rattle.path.proofs.run.next_run.Statement.{statement}
 use Rattle.path.proofs.run.next_run.Tie as tie
@@ -78,7 +77,7 @@ next-member-requires-2 c κs = long (c .before .before .before .before .before .
 loop-less : tie.Need-loop-less Inv-loop μ-loop
 loop-less c =
     let r = c .before .before .before .before .before .before in
-    omega (arith, c .next-member2 .ensures, next-after 8 (S (r .before .before) .args .segments .now) (r .before .before .loop .at + 9))
+    omega (arith, past-after (S (r .before .before) .args .segments .now) (r .before .before .loop .inv .stands) (r .before .loop-test .taken) (c .next-member2 .ensures), r .before .loop-test .taken)
 
 loop-again : tie.Need-loop-again Inv-loop μ-loop
 loop-again c =

@@ -11,8 +11,7 @@ use Rattle.small_chunks.specs.declared.sequence.SeqnSegment.{SeqnSegment}
 use Rattle.layout.specs.Members.{segmentsIn}
 use Rattle.path.specs.Path.{joinedLength}
 use Rattle.path.proofs.LengthLaws.{lengthFrom, from-start, from-none, from-end, from-first}
-use Rattle.path.proofs.PlaceLaws.{first-stands, first-same, past-stands, past-after, past-segments}
-use Rattle.path.proofs.SegmentLaws.{Stands, segments-end, segment-long}
+use Rattle.path.proofs.SegmentLaws.{Stands, stands-next, segments-same, segments-end, segment-long, stands-past, past-after, past-segments}
 use Rattle.path.proofs.sequence.sequence_length.Statement.{statement}
 use Rattle.path.proofs.sequence.sequence_length.Tie as tie
 
@@ -33,9 +32,9 @@ next-member-requires c κs = zero-le
 loop-holds : tie.Need-loop-holds Inv-loop μ-loop
 loop-holds c =
     let s = c .before .before in (
-      first-stands (s .args .segments .now) (c .next-member .ensures) (s .pre),
+      stands-next (s .args .segments .now) 0 (c .next-member .ensures) zero-le (s .pre),
       zero-le,
-      ap (λ (ss : List SeqnSegment). lengthFrom 0 (s .args .count) ss) (first-same (s .args .segments .now) (c .next-member .ensures)) ∙ from-start (s .args .count) (segmentsIn (s .args .segments .now)),
+      ap (λ (ss : List SeqnSegment). lengthFrom 0 (s .args .count) ss) (segments-same (s .args .segments .now) 0 (c .next-member .ensures)) ∙ from-start (s .args .count) (segmentsIn (s .args .segments .now)),
     )
 
 returns : tie.Need-returns Inv-loop μ-loop
@@ -82,7 +81,7 @@ loop-again c =
     let t = r .before .before in
     let l = t .before .loop in
     let a = t .before .before .before .before .args in (
-      past-stands (a .segments .now) (l .inv .0) (t .loop-test .taken) (c .next-member2 .ensures),
+      stands-past (a .segments .now) (l .inv .0) (t .loop-test .taken) (c .next-member2 .ensures),
       omega (arith, c .before .capped .ensures),
       sym (from-first (l .sum) _ (c .before .before .len .result) (l .left) (r .read .result) _ (omega (arith, r .before .if1 .left)) (c .before .before .len .ensures) (c .before .capped .ensures))
           ∙ ap (λ (ss : List SeqnSegment). lengthFrom (l .sum) (l .left) ss) (sym (past-segments (a .segments .now) (l .inv .0) (t .loop-test .taken) (c .next-member2 .ensures) (r .read .result) (r .read .ensures)))

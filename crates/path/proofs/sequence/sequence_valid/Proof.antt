@@ -11,8 +11,7 @@ use Rattle.small_chunks.specs.declared.sequence.SeqnSegment.{SeqnSegment}
 use Rattle.layout.specs.Members.{segmentsIn, nextMember}
 use Rattle.path.specs.Path.{allValid}
 use Rattle.path.proofs.LengthLaws.{valid-all, valid-past, valid-refused}
-use Rattle.path.proofs.PlaceLaws.{first-stands, first-same, past-stands, past-after, past-segments}
-use Rattle.path.proofs.SegmentLaws.{Stands, segments-end, segment-long}
+use Rattle.path.proofs.SegmentLaws.{Stands, stands-next, segments-same, segments-end, segment-long, stands-past, past-after, past-segments}
 use Rattle.path.proofs.sequence.sequence_valid.Statement.{statement}
 use Rattle.path.proofs.sequence.sequence_valid.Tie as tie
 
@@ -43,7 +42,7 @@ next-member-requires c κs = zero-le
 loop-holds : tie.Need-loop-holds Inv-loop μ-loop
 loop-holds c =
     let s = c .before .before in
-    (first-stands (s .args .segments .now) (c .next-member .ensures) (s .pre), ap (λ (ss : List SeqnSegment). allValid ss (s .args .hi)) (first-same (s .args .segments .now) (c .next-member .ensures)))
+    (stands-next (s .args .segments .now) 0 (c .next-member .ensures) zero-le (s .pre), ap (λ (ss : List SeqnSegment). allValid ss (s .args .hi)) (segments-same (s .args .segments .now) 0 (c .next-member .ensures)))
 
 add-body : tie.Need-add-body Inv-loop μ-loop
 add-body c = omega (arith, long c)
@@ -82,7 +81,7 @@ loop-again c =
     let r = c .before .before .before .before in
     let t = r .before in
     let a = t .before .before .before .before .args in (
-      past-stands (a .segments .now) (t .before .loop .inv .0) (t .loop-test .taken) (c .next-member2 .ensures),
+      stands-past (a .segments .now) (t .before .loop .inv .0) (t .loop-test .taken) (c .next-member2 .ensures),
       sym (valid-past _ _ _ (sym (c .before .before .before .validate .ensures) ∙ c .before .enum-told2 .given .1)) ∙ turn r _ (c .next-member2 .ensures),
     )
 
