@@ -177,6 +177,49 @@ SvxPart svx_loop_repeat(uint32_t one_shot, uint32_t repeat, uint8_t octaves, uin
  * Not there where the sheet is refused, one channel has no right side, or the buffer is too short. */
 SvxPart svx_side_samples(const uint8_t *sheet, size_t sheet_len, uint64_t left_len, uint64_t right_len, bool right);
 
+/* Words. */
+
+/* A refusal's number in words, for messages; 0 is "accepted".
+ * A number that no function here gives is "unknown refusal". */
+#ifdef __GNUC__
+__attribute__((unused)) /* clang would warn where this header is compiled by itself */
+#endif
+static inline const char *svx_refusal_text(uint32_t number) {
+    switch (number) {
+    case 0: return "accepted";
+    case 1: return "the file is under 12 bytes";
+    case 2: return "no FORM";
+    case 3: return "the form type isn't 8SVX";
+    case 4: return "a chunk runs past the FORM";
+    case 5: return "a second VHDR, CHAN, PAN, SEQN, FADE or BODY";
+    case 6: return "a chunk's length is wrong";
+    case 7: return "CHAN isn't 2, 4 or 6";
+    case 8: return "no VHDR";
+    case 9: return "no BODY";
+    case 10: return "the compression is above 1";
+    case 11: return "a Fibonacci BODY of two channels has an odd length";
+    case 12: return "a Fibonacci channel is under 2 bytes";
+    case 13: return "the octaves' total is over 2^64 - 1";
+    case 14: return "a channel is shorter than its octaves";
+    case 15: return "the sheet ends inside a record";
+    case 16: return "the sheet's kind, order or value is wrong, or it has no header";
+    case 17: return "a text isn't UTF-8";
+    case 18: return "the sample lengths don't suit the sheet";
+    case 19: return "the FORM length is over 4,294,967,295";
+    case 20: return "an output buffer is too short";
+    case 21: return "a SEQN segment is invalid";
+    case 22: return "a SEQN beside a one-shot part";
+    case 23: return "FADE names no segment";
+    case 24: return "the sequence is over 4,294,967,295 samples";
+    case 25: return "an odd number of places in the fill buffer";
+    case 31: return "the octave is absent";
+    case 32: return "the step is 0 or above 16,777,216";
+    case 33: return "the rate is 0 or above 192,000";
+    case 34: return "the key-up frame is later than the frames filled";
+    default: return "unknown refusal";
+    }
+}
+
 #ifdef __cplusplus
 }
 #endif

@@ -88,6 +88,7 @@ RefusedAmong numbers (Answer.Refused n) = Among n numbers
 
 -- ---- the demand
 
+-- what a list of calls gives, which one note it is, and what can turn a fill back
 pub record Demand3 : Type 0 where
   -- every list of calls from a fresh note on what reading put out gives the reckoning's answers and blocks
   pub played : (file : List ℕ) (b : Lent) (l : Lengths) (s : Started) (calls : List HostCall) → Bytes file

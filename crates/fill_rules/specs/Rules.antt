@@ -26,6 +26,7 @@ pub record Rule : Type 0 where
   pub number : ℕ
   pub holds : Bool
 
+-- a rule by these two
 abbrev pub rule : ℕ → Bool → Rule
 rule number holds = record { number = number; holds = holds }
 

@@ -55,5 +55,6 @@ FadeOn (some f) (some segments) k = joinedLength (2 ^ k) segments < 2 ^ 32
 FadeOn (some f) none k = ⊥
 FadeOn none sequence k = Unit
 
+-- the same of a voice in octave k
 abbrev pub FadeFits : Voice → ℕ → Type 0
 FadeFits v k = FadeOn (v .fade) (v .sequence) k

@@ -27,11 +27,12 @@ unfoldable pub sharesOf : Option ChannelAssignment → Option Pan → Shares
 sharesOf (some c) pan = channelShares c
 sharesOf none pan = panShares pan
 
--- what the code's answers say
+-- the channel that the code's answer says
 abbrev pub channelIn : MaybeChannel → Option ChannelAssignment
 channelIn (Channel c) = some c
 channelIn NoChannel = none
 
+-- and the pan
 abbrev pub panIn : MaybePan → Option Pan
 panIn (Panned p) = some p
 panIn NoPan = none

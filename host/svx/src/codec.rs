@@ -1,0 +1,57 @@
+//! BODY and its channels, and the loudest sample.
+use crate::ffi;
+use crate::Refusal;
+
+/// The samples of a Fibonacci-coded channel. Refused by 12.
+///
+/// ```
+/// assert_eq!(svx::fibonacci_decode_channel(&[0x00, 0x64, 0xF1]), Ok(vec![100, 121, 100]));
+/// ```
+pub fn fibonacci_decode_channel(body: &[u8]) -> Result<Vec<i8>, Refusal> {
+    // The first two bytes give one sample, each further one two.
+    let mut samples = vec![0; body.len().saturating_mul(2).saturating_sub(3)];
+    let length = ffi::fibonacci_decode_channel(body, &mut samples)?;
+    samples.truncate(length);
+    Ok(samples)
+}
+
+/// A channel's samples, Fibonacci-coded. The coding isn't exact: a sample is as near as a step of at most 34 down or 21
+/// up from the one before can bring it.
+///
+/// ```
+/// assert_eq!(svx::fibonacci_encode_channel(&[0, 4]), [0x00, 0x00, 0xB8]);
+/// ```
+pub fn fibonacci_encode_channel(samples: &[i8]) -> Vec<u8> {
+    let mut bytes = vec![0; samples.len() / 2 + 2];
+    // Only a short buffer is refused, and this one has room for all.
+    let length = ffi::fibonacci_encode_channel(samples, &mut bytes).unwrap_or(0);
+    bytes.truncate(length);
+    bytes
+}
+
+/// A BODY as interleaved bytes, left and right by turns where it has two channels: at most so many `frames` of each. 0
+/// channels count as 1, more than 2 as 2. The compression is the header's byte. Refused by 10, 11 and 12.
+///
+/// ```
+/// assert_eq!(svx::decode_body(&[1, 2, 3, 4, 5, 6], 0, 2, 2), Ok(vec![1, 4, 2, 5]));
+/// ```
+pub fn decode_body(body: &[u8], compression: u8, channels: u16, frames: u64) -> Result<Vec<u8>, Refusal> {
+    // No byte of a BODY gives more than two bytes, and no frame has more than two.
+    let most = usize::try_from(frames).unwrap_or(usize::MAX).min(body.len());
+    let mut bytes = vec![0; most.saturating_mul(2)];
+    let length = ffi::decode_body(body, compression, channels, frames, &mut bytes)?;
+    bytes.truncate(length);
+    Ok(bytes)
+}
+
+/// The largest magnitude of samples, where -128 counts as 128, and a place that has it; none where there are no
+/// samples. Which of equally loud places it is isn't promised.
+///
+/// ```
+/// assert_eq!(svx::peak(&[3, -128, 7]), Some((128, 1)));
+/// assert_eq!(svx::peak(&[]), None);
+/// ```
+pub fn peak(samples: &[i8]) -> Option<(u8, usize)> {
+    let (magnitude, place) = ffi::peak(samples)?;
+    Some((magnitude, usize::try_from(place).ok()?))
+}

@@ -1,0 +1,223 @@
+//! `draw`: the waveforms and the envelope of a voice as a picture.
+use crate::args::{Command, Given};
+use crate::envelope;
+use crate::failure::Failure;
+use crate::files::{Input, Output};
+use crate::panel::{Area, COLUMNS, HEADING, LABEL, LEFT, MARK, RIGHT, SMALL, WIDTH};
+use crate::svg::{number, Anchor, Svg};
+use crate::words::{counted, escaped, grouped, lasting, percent, shown};
+use std::path::Path;
+use svx::{ChannelSamples, Voice};
+
+pub const DRAW: Command = Command {
+    name: "draw",
+    takes: "FILE OUT.svg",
+    does: "draw the waveforms and the envelope as a picture",
+    help: "\
+Draws the voice FILE to OUT.svg (- is standard output): the waveform of each
+octave with its loop part shaded, and below them the level of a note over time,
+the key being let go where the attack ends.",
+    flags: &[],
+    values: &[],
+    files: 2..=2,
+    run: draw,
+};
+
+const TITLE: &str = r##"font-size="22" font-weight="bold" fill="#222222""##;
+const SUBTITLE: &str = r##"font-size="12" fill="#555555""##;
+const LOOP: &str = r##"fill="#e3ecf8""##;
+/// The waves of the channels.
+const INKS: [&str; 2] = ["#1f3b63", "#7a3420"];
+
+fn draw(given: &Given) -> Result<u8, Failure> {
+    let input = Input::read(given.file(0))?;
+    let voice = input.sheet()?.voice();
+    let picture = picture(&voice, given.file(0).as_ref());
+    let mut out = Output::create(given.file(1), &input)?;
+    out.write(picture.as_bytes())?;
+    out.finish(&format!("{} drawn", counted(voice.octave_count() as u64, "octave")))?;
+    Ok(0)
+}
+
+fn picture(voice: &Voice, path: &Path) -> String {
+    let name = voice
+        .metadata
+        .iter()
+        .find(|(key, _)| key == "title")
+        .map(|(_, text)| text.clone());
+    let title = name.unwrap_or_else(|| shown(path.file_name().unwrap_or(path.as_os_str())));
+    let mut svg = Svg::new(WIDTH);
+    svg.text((LEFT, 38.0), Anchor::Start, TITLE, &fitted(&escaped(&title)));
+    svg.text((LEFT, 58.0), Anchor::Start, SUBTITLE, &subtitle(voice));
+    let mut top = 82.0;
+    for k in 0..voice.octave_count() {
+        top = octave(&mut svg, voice, k, top);
+    }
+    let height = envelope::draw(&mut svg, voice, top);
+    svg.finish(height, &title)
+}
+
+/// A title cut to the width of the picture. A wide letter takes the room of two.
+fn fitted(title: &str) -> String {
+    let (mut out, mut room) = (String::new(), 66);
+    for c in title.chars() {
+        let width = if c >= '\u{1100}' { 2 } else { 1 };
+        if room < width {
+            return out + "…";
+        }
+        room -= width;
+        out.push(c);
+    }
+    out
+}
+
+fn subtitle(voice: &Voice) -> String {
+    let header = &voice.header;
+    let mut facts = vec![counted(voice.channel_count() as u64, "channel")];
+    if header.samples_per_sec > 0 {
+        facts.push(format!(
+            "{} samples a second",
+            grouped(u64::from(header.samples_per_sec))
+        ));
+    }
+    facts.push(format!("volume {}", percent(i64::from(header.volume))));
+    if header.compression_byte == 1 {
+        facts.push("Fibonacci-delta".to_string());
+    }
+    if let Some(seqn) = &voice.seqn {
+        facts.push(format!(
+            "a sequence of {}",
+            counted(seqn.segments.len() as u64, "segment")
+        ));
+    }
+    facts.join(", ")
+}
+
+/// Draws the panel of an octave from `top` on, one area for each channel. Gives the place below it.
+fn octave(svg: &mut Svg, voice: &Voice, k: usize, top: f64) -> f64 {
+    let samples = voice
+        .channels
+        .first()
+        .and_then(|c| c.octaves.get(k))
+        .map_or(0, Vec::len) as u64;
+    let lasts = lasting(samples, u32::from(voice.header.samples_per_sec)).map_or(String::new(), |s| format!(", {s}"));
+    svg.text((LEFT, top + 14.0), Anchor::Start, HEADING, &format!("Octave {k}"));
+    let facts = format!("{}{lasts}", counted(samples, "sample"));
+    svg.text((LEFT + 98.0, top + 14.0), Anchor::Start, SMALL, &facts);
+    let height = if voice.channel_count() > 1 { 80.0 } else { 120.0 };
+    let mut area = Area {
+        top: top + 44.0,
+        height,
+        end: samples,
+    };
+    parts(svg, voice, k, &area);
+    for (i, channel) in voice.channels.iter().enumerate() {
+        if i > 0 {
+            area.top = area.bottom() + 18.0;
+        }
+        wave(svg, voice, channel, k, &area, INKS[i % 2]);
+        if voice.channel_count() > 1 {
+            let side = if i == 0 { "left" } else { "right" };
+            svg.text((14.0, area.top + height / 2.0 + 4.0), Anchor::Start, LABEL, side);
+        }
+    }
+    area.ticks(svg, "samples");
+    area.bottom() + 40.0
+}
+
+/// The names of an octave's parts, above their beginning and end.
+fn parts(svg: &mut Svg, voice: &Voice, k: usize, area: &Area) {
+    let Some((one_shot, repeat)) = split(voice, k) else {
+        return;
+    };
+    let y = area.top - 8.0;
+    if one_shot > 0 {
+        svg.text(
+            (LEFT, y),
+            Anchor::Start,
+            LABEL,
+            &format!("one-shot {}", grouped(one_shot)),
+        );
+    }
+    if repeat > 0 {
+        let name = if voice.seqn.is_some() {
+            "played by the sequence"
+        } else {
+            "loop"
+        };
+        svg.text((RIGHT, y), Anchor::End, LABEL, &format!("{name} {}", grouped(repeat)));
+    }
+}
+
+/// The lengths of an octave's one-shot and repeat part.
+fn split(voice: &Voice, k: usize) -> Option<(u64, u64)> {
+    let (one_shot, repeat) = voice
+        .channels
+        .first()?
+        .loop_split(&voice.header, u8::try_from(k).ok()?)?;
+    Some((one_shot.len() as u64, repeat.len() as u64))
+}
+
+/// One channel of an octave.
+fn wave(svg: &mut Svg, voice: &Voice, channel: &ChannelSamples, k: usize, area: &Area, ink: &str) {
+    let split = split(voice, k).filter(|(_, repeat)| *repeat > 0);
+    if let Some((one_shot, _)) = split {
+        let x = area.x(one_shot as f64);
+        svg.rect([x, area.top, RIGHT - x, area.height], LOOP);
+    }
+    for value in [127, 0, -128] {
+        area.value(svg, height(area, value), &value.to_string());
+    }
+    if let Some((one_shot, _)) = split.filter(|(one_shot, _)| *one_shot > 0) {
+        let x = area.x(one_shot as f64);
+        svg.line((x, area.top), (x, area.bottom()), MARK);
+    }
+    let samples = channel.octaves.get(k).map_or(&[][..], Vec::as_slice);
+    if samples.is_empty() {
+        let middle = ((LEFT + RIGHT) / 2.0, area.top + area.height / 2.0 - 6.0);
+        svg.text(middle, Anchor::Middle, SMALL, "no samples");
+    } else if samples.len() <= COLUMNS as usize {
+        let look = format!(r#"fill="none" stroke="{ink}" stroke-width="1.3""#);
+        svg.element("path", &format!(r#"d="{}" {look}"#, steps(samples, area)));
+    } else {
+        let look = format!(r#"fill="{ink}" stroke="{ink}" stroke-width="0.7" stroke-linejoin="round""#);
+        svg.element("path", &format!(r#"d="{}" {look}"#, band(samples, area)));
+    }
+    area.frame(svg);
+}
+
+/// The place of a sample's value.
+fn height(area: &Area, value: i8) -> f64 {
+    area.top + area.height * (127.0 - f64::from(value)) / 255.0
+}
+
+/// A few samples: each is held until the next, as a note holds it.
+fn steps(samples: &[i8], area: &Area) -> String {
+    let mut path = String::new();
+    for (i, sample) in samples.iter().enumerate() {
+        let y = number(height(area, *sample));
+        path += &if i == 0 {
+            format!("M{} {y}", number(LEFT))
+        } else {
+            format!("V{y}")
+        };
+        path += &format!("H{}", number(area.x((i + 1) as f64)));
+    }
+    path
+}
+
+/// Many samples: the highest of each column from left to right, then the lowest back.
+fn band(samples: &[i8], area: &Area) -> String {
+    let columns = COLUMNS as usize;
+    let edge = |c: usize| (c as u128 * samples.len() as u128 / columns as u128) as usize;
+    let (mut above, mut below) = (Vec::new(), Vec::new());
+    for c in 0..columns {
+        let column = &samples[edge(c)..edge(c + 1)];
+        let x = number(LEFT + c as f64 + 0.5);
+        let place = |value: Option<&i8>| format!("{x} {}", number(height(area, value.copied().unwrap_or(0))));
+        above.push(place(column.iter().max()));
+        below.push(place(column.iter().min()));
+    }
+    below.reverse();
+    format!("M{}L{}Z", above.join("L"), below.join("L"))
+}

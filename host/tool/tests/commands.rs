@@ -1,0 +1,813 @@
+//! Runs the built tool on voices that are made here, and on those of the folder `voices` where it is there: statuses,
+//! output, files that are written, and what is said of bad input.
+use std::ffi::OsStr;
+use std::fs::{self, File};
+use std::path::{Path, PathBuf};
+use std::process::Command;
+use svx::{
+    ChannelAssignment, ChannelSamples, EgPoint, Envelope, Note, Pan, Seqn, SeqnSegment, Sheet, Voice, VoiceHeader,
+};
+
+/// A whole file: one sample, -2, played once, at 8,000 samples a second.
+const EXAMPLE: [u8; 50] = [
+    0x46, 0x4F, 0x52, 0x4D, 0, 0, 0, 0x2A, 0x38, 0x53, 0x56, 0x58, 0x56, 0x48, 0x44, 0x52, 0, 0, 0, 0x14, 0, 0, 0, 1,
+    0, 0, 0, 0, 0, 0, 0, 0, 0x1F, 0x40, 1, 0, 0, 1, 0, 0, 0x42, 0x4F, 0x44, 0x59, 0, 0, 0, 1, 0xFE, 0,
+];
+
+const COMMANDS: [&str; 7] = ["info", "check", "stem", "null", "raw", "rewrite", "draw"];
+
+/// What a run of the tool gave.
+struct Ran {
+    status: Option<i32>,
+    bytes: Vec<u8>,
+    out: String,
+    err: String,
+}
+
+fn run(arguments: &[&dyn AsRef<OsStr>]) -> Ran {
+    let mut command = Command::new(env!("CARGO_BIN_EXE_svx"));
+    for argument in arguments {
+        command.arg(argument.as_ref());
+    }
+    let ran = command.output().expect("the tool runs");
+    let text = |bytes: &[u8]| String::from_utf8_lossy(bytes).into_owned();
+    Ran {
+        status: ran.status.code(),
+        out: text(&ran.stdout),
+        err: text(&ran.stderr),
+        bytes: ran.stdout,
+    }
+}
+
+impl Ran {
+    /// It ended well and complained of nothing.
+    fn well(self) -> Ran {
+        assert_eq!((self.status, self.err.as_str()), (Some(0), ""), "{}", self.out);
+        self
+    }
+
+    /// It ended with a status, one line on standard error that has these words, and nothing on standard output.
+    fn fails(self, status: i32, words: &str) {
+        assert_eq!(self.status, Some(status), "{}", self.err);
+        assert_eq!(self.out, "");
+        assert!(
+            self.err.starts_with("svx: ") && self.err.ends_with('\n'),
+            "{:?}",
+            self.err
+        );
+        assert_eq!(self.err.lines().count(), 1, "{:?}", self.err);
+        assert!(self.err.contains(words), "{:?} lacks {words:?}", self.err);
+    }
+}
+
+/// A folder for one test, removed at its end.
+struct Folder(PathBuf);
+
+impl Folder {
+    fn new(name: &str) -> Folder {
+        let path = std::env::temp_dir().join(format!("svx-commands-{}-{name}", std::process::id()));
+        fs::create_dir_all(&path).expect("a folder for the test");
+        Folder(path)
+    }
+
+    fn path(&self, name: &str) -> PathBuf {
+        self.0.join(name)
+    }
+
+    fn file(&self, name: &str, bytes: &[u8]) -> PathBuf {
+        let path = self.path(name);
+        fs::write(&path, bytes).expect("a file for the test");
+        path
+    }
+
+    fn voice(&self, name: &str, voice: &Voice) -> PathBuf {
+        self.file(name, &svx::encode_voice(voice).expect("a voice that can be written"))
+    }
+}
+
+impl Drop for Folder {
+    fn drop(&mut self) {
+        let _ = fs::remove_dir_all(&self.0);
+    }
+}
+
+fn wave(length: usize, rise: i32) -> Vec<i8> {
+    (0..length as i32).map(|i| (i * rise % 256 - 128) as i8).collect()
+}
+
+fn points(list: &[(u16, i32)]) -> Envelope {
+    Envelope {
+        points: list
+            .iter()
+            .map(|&(duration_ms, dest)| EgPoint { duration_ms, dest })
+            .collect(),
+    }
+}
+
+/// Two looped octaves with everything but a sequence.
+fn looped() -> Voice {
+    Voice {
+        header: VoiceHeader {
+            one_shot_hi_samples: 4,
+            repeat_hi_samples: 8,
+            samples_per_hi_cycle: 4,
+            samples_per_sec: 8_000,
+            ct_octave: 2,
+            volume: 49_152,
+            ..VoiceHeader::default()
+        },
+        pan: Some(Pan { position: 49_152 }),
+        attack: vec![points(&[(10, 65_536)]), points(&[(20, 32_768)])],
+        release: vec![points(&[(30, 0)])],
+        metadata: vec![
+            ("title".into(), "Tom & <Jerry>".into()),
+            ("comment".into(), "bell\u{7}\u{1b}[1m".into()),
+        ],
+        channels: vec![ChannelSamples {
+            octaves: vec![wave(12, 37), wave(24, 11)],
+        }],
+        ..Voice::default()
+    }
+}
+
+fn stereo() -> Voice {
+    Voice {
+        header: VoiceHeader {
+            one_shot_hi_samples: 3,
+            samples_per_sec: 8_000,
+            ..VoiceHeader::default()
+        },
+        channel: Some(ChannelAssignment::Stereo),
+        channels: vec![
+            ChannelSamples {
+                octaves: vec![vec![1, -2, 3]],
+            },
+            ChannelSamples {
+                octaves: vec![vec![-128, 127, 0]],
+            },
+        ],
+        ..Voice::default()
+    }
+}
+
+/// A voice that is read, but whose notes are refused by 21.
+fn unplayable() -> Voice {
+    let segments = vec![SeqnSegment { start: 0, end: 6 }];
+    Voice {
+        header: VoiceHeader {
+            repeat_hi_samples: 8,
+            samples_per_sec: 8_000,
+            ..VoiceHeader::default()
+        },
+        seqn: Some(Seqn { segments }),
+        channels: vec![ChannelSamples {
+            octaves: vec![wave(8, 9)],
+        }],
+        ..Voice::default()
+    }
+}
+
+/// The values of a note, filled here: left and right by turns.
+fn filled(voice: &Voice, note: Note, frames: usize, key_up: Option<usize>) -> Vec<i16> {
+    let sheet = Sheet::of(voice).expect("a sheet");
+    let until = key_up.map_or(frames, |u| u.min(frames));
+    let mut values = vec![0; 2 * frames];
+    let (mut note, _) = note.fill(&sheet, &mut values[..2 * until]).expect("a fill");
+    if key_up.is_some() {
+        note = note.key_up();
+    }
+    note.fill(&sheet, &mut values[2 * until..]).expect("a fill");
+    values
+}
+
+/// Takes a WAV file of 16-bit stereo frames apart: its rate and its values.
+fn wav(bytes: &[u8]) -> (u32, Vec<i16>) {
+    let word = |at: usize| u32::from_le_bytes(bytes[at..at + 4].try_into().expect("four bytes"));
+    let data = bytes.len() as u32 - 44;
+    assert_eq!((&bytes[..4], word(4)), (&b"RIFF"[..], 36 + data));
+    assert_eq!((&bytes[8..16], word(16)), (&b"WAVEfmt "[..], 16));
+    assert_eq!(word(20), 1 | 2 << 16, "PCM, two channels");
+    assert_eq!(word(28), 4 * word(24), "bytes a second");
+    assert_eq!(word(32), 4 | 16 << 16, "bytes a frame, bits a value");
+    assert_eq!((&bytes[36..40], word(40)), (&b"data"[..], data));
+    let values = bytes[44..]
+        .chunks_exact(2)
+        .map(|pair| i16::from_le_bytes([pair[0], pair[1]]));
+    (word(24), values.collect())
+}
+
+/// Runs `stem` with options and takes its file apart.
+fn stem(folder: &Folder, file: &Path, options: &[&str]) -> (u32, Vec<i16>) {
+    let out = folder.path("stem.wav");
+    let mut arguments: Vec<&dyn AsRef<OsStr>> = vec![&"stem", &file, &out];
+    options.iter().for_each(|option| arguments.push(option));
+    run(&arguments).well();
+    wav(&fs::read(&out).expect("a file was written"))
+}
+
+#[test]
+fn help_ends_well() {
+    for command in COMMANDS {
+        for ran in [
+            run(&[&command, &"--help"]),
+            run(&[&command, &"-h"]),
+            run(&[&"help", &command]),
+        ] {
+            assert!(ran.well().out.starts_with(&format!("usage: svx {command} FILE")));
+        }
+    }
+    for ran in [run(&[&"--help"]), run(&[&"help"])] {
+        let out = ran.well().out;
+        assert!(
+            COMMANDS.iter().all(|command| out.contains(&format!("\n  {command} "))),
+            "{out}"
+        );
+        assert!(out.lines().all(|line| line.len() <= 82), "{out}");
+    }
+    assert!(run(&[&"--version"]).well().out.starts_with("svx "));
+}
+
+#[test]
+fn wrong_usage_is_2() {
+    let folder = Folder::new("usage");
+    let (file, out) = (folder.file("example.8svx", &EXAMPLE), folder.path("out"));
+    run(&[]).fails(2, "no command");
+    run(&[&"play"]).fails(2, "no command play");
+    run(&[&"--rate"]).fails(2, "no command --rate");
+    for command in COMMANDS {
+        run(&[&command]).fails(2, "usage: svx");
+        run(&[&command, &file, &out, &"--loud"]).fails(2, "unknown option --loud");
+    }
+    run(&[&"info", &file, &file]).fails(2, "usage: svx info FILE");
+    run(&[&"stem", &file, &out, &"--octave"]).fails(2, "--octave needs a value");
+    run(&[&"stem", &file, &out, &"--octave", &"256"]).fails(2, "from 0 to 255");
+    run(&[&"stem", &file, &out, &"--octave", &"-1"]).fails(2, "from 0 to 255");
+    run(&[&"stem", &file, &out, &"--step", &"1", &"--step", &"2"]).fails(2, "twice");
+    run(&[&"stem", &file, &out, &"--step=1", &"--note-rate=2"]).fails(2, "exclude each other");
+    run(&[&"stem", &file, &out, &"--frames=1", &"--seconds=2"]).fails(2, "exclude each other");
+    run(&[&"stem", &file, &out, &"--key-up=1", &"--key-up-seconds=2"]).fails(2, "exclude each other");
+    run(&[&"stem", &file, &out, &"--block", &"0"]).fails(2, "from 1 to 1,048,576");
+    run(&[&"stem", &file, &out, &"--seconds", &"1e3"]).fails(2, "--seconds takes a number");
+    run(&[&"rewrite", &file, &out, &"--raw=1"]).fails(2, "takes no value");
+    run(&[&"rewrite", &file, &out, &"--raw", &"--fibonacci"]).fails(2, "exclude each other");
+    assert!(!out.exists());
+}
+
+#[test]
+fn bad_input_is_told_in_one_line() {
+    let folder = Folder::new("input");
+    let (empty, byte) = (folder.file("empty", &[]), folder.file("byte", b"F"));
+    let out = folder.path("out");
+    let cases: [(&Path, i32, &str); 6] = [
+        (&folder.0, 2, "is a directory"),
+        (&folder.path("missing"), 2, "no such file"),
+        (&folder.path("new\nline"), 2, "new\\nline: no such file"),
+        (&empty, 1, "refused by 1: "),
+        (&byte, 1, "refused by 1: "),
+        (Path::new("/dev/null"), 1, "refused by 1: "),
+    ];
+    for (path, status, words) in cases {
+        run(&[&"info", &path]).fails(status, words);
+        run(&[&"null", &path]).fails(status, words);
+        for command in ["stem", "raw", "rewrite", "draw"] {
+            run(&[&command, &path, &out]).fails(status, words);
+            assert!(!out.exists(), "{command} left a file behind");
+        }
+    }
+}
+
+#[test]
+fn a_file_over_4_gib_is_not_read() {
+    let folder = Folder::new("large");
+    let path = folder.file("large", b"FORM\0\0\0\x048SVX");
+    // The file has a hole; where holes can't be made there is nothing to try.
+    let made = File::options()
+        .write(true)
+        .open(&path)
+        .and_then(|file| file.set_len((1 << 32) + 1));
+    if made.is_ok() {
+        run(&[&"check", &path]).fails(2, "is larger than 4 GiB");
+        run(&[&"info", &path]).fails(2, "is larger than 4 GiB");
+    }
+}
+
+#[test]
+fn check_says_a_line_for_each_file() {
+    let folder = Folder::new("check");
+    let (good, byte) = (folder.file("good", &EXAMPLE), folder.file("byte", b"F"));
+    let (good_line, byte_line) = (
+        format!("{}: ok\n", good.display()),
+        format!(
+            "{}: refused by 1: {}\n",
+            byte.display(),
+            svx::parse_voice(b"F").expect_err("too short").words()
+        ),
+    );
+    assert_eq!(run(&[&"check", &good]).well().out, good_line);
+    let ran = run(&[&"check", &byte, &good]);
+    assert_eq!((ran.status, ran.err.as_str()), (Some(1), ""));
+    assert_eq!(ran.out, byte_line.clone() + &good_line);
+    run(&[&"check", &folder.0]).fails(2, "is a directory");
+    let ran = run(&[&"check", &folder.path("missing"), &byte, &good]);
+    assert_eq!((ran.status, ran.out), (Some(2), byte_line + &good_line));
+    assert_eq!(
+        ran.err,
+        format!("svx: {}: no such file or directory\n", folder.path("missing").display())
+    );
+    let ran = run(&[&"check", &"/dev/zero", &"/dev/null"]);
+    assert_eq!(
+        (ran.status, ran.err.as_str(), ran.out.lines().count()),
+        (Some(1), "", 2)
+    );
+}
+
+#[test]
+fn info_tells_what_is_in_a_voice() {
+    let folder = Folder::new("info");
+    let path = folder.voice("looped.8svx", &looped());
+    let size = fs::metadata(&path).expect("a file").len();
+    let expected = format!(
+        "{}: {size} bytes
+title:        Tom & <Jerry>
+comment:      bell\\u{{7}}\\u{{1b}}[1m
+channels:     1, placed by its pan
+rate:         8,000 samples a second
+octaves:      2
+  octave 0: 12 samples, 1.5 ms; one-shot 4, loop 8
+  octave 1: 24 samples, 3 ms; one-shot 8, loop 16
+cycle:        4 samples in octave 0, 2000.00 Hz at the voice's rate
+volume:       75%
+compression:  none
+pan:          75% left, 25% right
+attack:       2 points, 30 ms
+  to 100% in 10 ms, at 10 ms
+  to 50% in 20 ms, at 30 ms
+release:      1 point, 30 ms
+  to 0% in 30 ms, at 30 ms
+sequence:     none
+fade:         none
+notes:        can be played
+",
+        path.display()
+    );
+    assert_eq!(run(&[&"info", &path]).well().out, expected);
+}
+
+#[test]
+fn info_tells_of_sides_and_sequences() {
+    let folder = Folder::new("sides");
+    let out = run(&[&"info", &folder.voice("stereo.8svx", &stereo())]).well().out;
+    assert!(
+        out.contains("\nchannels:     2, left and right\n") && out.contains("\nattack:       none: full level"),
+        "{out}"
+    );
+    let out = run(&[&"info", &folder.voice("unplayable.8svx", &unplayable())])
+        .well()
+        .out;
+    assert!(
+        out.contains("\nsequence:     1 segment\n  segment 0: samples 0 to 6\n"),
+        "{out}"
+    );
+    assert!(out.contains("\nnotes:        refused by 21: "), "{out}");
+    let out = run(&[&"info", &folder.file("example.8svx", &EXAMPLE)]).well().out;
+    assert!(
+        out.contains(": 50 bytes\n") && out.contains("\n  octave 0: 1 sample, 0.125 ms; one-shot 1, loop 0\n"),
+        "{out}"
+    );
+    assert!(
+        out.contains("\ncycle:        not known\n") && out.contains("\npan:          none\n"),
+        "{out}"
+    );
+}
+
+#[test]
+fn stem_writes_what_a_fill_gives() {
+    let folder = Folder::new("stem");
+    let (voice, note) = (looped(), Note::start(1, 50_000, 22_050));
+    let path = folder.voice("looped.8svx", &voice);
+    let options = [
+        "--octave=1",
+        "--step=50000",
+        "--rate",
+        "22050",
+        "--frames=3000",
+        "--key-up=1234",
+    ];
+    let expected = filled(&voice, note, 3_000, Some(1_234));
+    assert_eq!(stem(&folder, &path, &options), (22_050, expected.clone()));
+    for block in ["--block=1", "--block=7", "--block=1000", "--block=1048576"] {
+        assert_eq!(
+            stem(&folder, &path, &[&options[..], &[block]].concat()).1,
+            expected,
+            "{block}"
+        );
+    }
+    let ran = run(&[&"stem", &path, &"-", &"--frames=5", &"--step=65536"]).well();
+    assert_eq!(
+        wav(&ran.bytes),
+        (44_100, filled(&voice, Note::start(0, 65_536, 44_100), 5, None))
+    );
+    let path = folder.voice("stereo.8svx", &stereo());
+    assert_eq!(
+        stem(&folder, &path, &["--step=65536"]).1,
+        [256, -32_768, -512, 32_512, 768, 0]
+    );
+}
+
+#[test]
+fn stem_reckons_steps_and_lengths() {
+    let folder = Folder::new("lengths");
+    let (voice, example) = (looped(), folder.file("example.8svx", &EXAMPLE));
+    let path = folder.voice("looped.8svx", &voice);
+    // 8,000 samples a second at 44,100 frames: a step of 11,888, so that the only sample sounds for 6 frames.
+    assert_eq!(stem(&folder, &example, &[]), (44_100, vec![-512; 12]));
+    assert_eq!(stem(&folder, &example, &["--note-rate=4000"]).1, vec![-512; 24]);
+    assert_eq!(
+        stem(&folder, &example, &["--note-rate=0.5", "--rate=8"]).1,
+        vec![-512; 32]
+    );
+    assert_eq!(
+        stem(&folder, &example, &["--seconds=0.0002"]).1,
+        [vec![-512; 12], vec![0; 4]].concat()
+    );
+    // A held loop gets 10 seconds. Let go, it is over after the release's 30 ms.
+    assert_eq!(stem(&folder, &path, &["--rate=1000"]).1.len(), 2 * 10_000);
+    let expected = filled(&voice, Note::start(0, 524_288, 1_000), 12_030, Some(12_000));
+    assert_eq!(
+        stem(&folder, &path, &["--rate=1000", "--key-up-seconds=12"]),
+        (1_000, expected)
+    );
+    assert_eq!(stem(&folder, &example, &["--frames=0"]).1.len(), 0);
+}
+
+#[test]
+fn a_refused_note_leaves_no_file() {
+    let folder = Folder::new("refused");
+    let (path, out) = (folder.voice("looped.8svx", &looped()), folder.path("out.wav"));
+    let bad = folder.voice("unplayable.8svx", &unplayable());
+    let cases = [
+        ("--octave=2", "by 31: "),
+        ("--step=0", "by 32: "),
+        ("--step=16777217", "by 32: "),
+        ("--rate=0", "by 33: "),
+    ];
+    for (option, words) in cases {
+        run(&[&"stem", &path, &out, &option]).fails(1, words);
+        run(&[&"null", &path, &option]).fails(1, words);
+    }
+    run(&[&"stem", &path, &out, &"--rate=192001"]).fails(1, "by 33: ");
+    run(&[&"stem", &bad, &out]).fails(1, "by 21: ");
+    run(&[&"null", &bad]).fails(1, "by 21: ");
+    assert!(!out.exists());
+    fs::write(&out, "kept").expect("a file for the test");
+    run(&[&"stem", &bad, &out]).fails(1, "by 21: ");
+    run(&[&"stem", &path, &out, &"--frames=1073741815"]).fails(2, "4 GiB");
+    run(&[&"stem", &path, &out, &"--seconds=1000000"]).fails(2, "4 GiB");
+    assert_eq!(fs::read(&out).expect("the file"), b"kept");
+    let mut voice = looped();
+    voice.header.samples_per_sec = 0;
+    run(&[&"stem", &folder.voice("no-rate.8svx", &voice), &out]).fails(2, "names no rate");
+}
+
+#[test]
+fn null_finds_no_difference() {
+    let folder = Folder::new("null");
+    let path = folder.voice("looped.8svx", &looped());
+    let out = run(&[&"null", &path, &"--rate=8000", &"--octave=1", &"--block=4000"])
+        .well()
+        .out;
+    let rest =
+        ["7", "64", "1,000", "4,096", "4,000"].map(|n| format!("blocks of {n}: 0 frames differ, 4,240 sounding\n"));
+    assert_eq!(
+        out,
+        "blocks of 1: 8,000 frames, 4,240 sounding\n".to_string() + &rest.concat()
+    );
+    let out = run(&[&"null", &path, &"--rate=8000", &"--frames=100", &"--key-up=7"])
+        .well()
+        .out;
+    assert!(
+        out.starts_with("blocks of 1: 100 frames, 100 sounding\nblocks of 7: 0 frames differ, 100 sounding\n"),
+        "{out}"
+    );
+}
+
+#[test]
+fn raw_writes_signed_bytes() {
+    let folder = Folder::new("raw");
+    let (path, out) = (folder.voice("stereo.8svx", &stereo()), folder.path("out.raw"));
+    let expected = [0x01, 0x80, 0xFE, 0x7F, 0x03, 0x00];
+    assert_eq!(
+        run(&[&"raw", &path, &out]).well().out,
+        format!("{}: 6 bytes\n", out.display())
+    );
+    assert_eq!(fs::read(&out).expect("a file was written"), expected);
+    assert_eq!(run(&[&"raw", &path, &"-"]).well().bytes, expected);
+    let voice = looped();
+    let bytes: Vec<u8> = voice.channels[0].flattened().iter().map(|s| *s as u8).collect();
+    assert_eq!(
+        run(&[&"raw", &folder.voice("looped.8svx", &voice), &"-"]).well().bytes,
+        bytes
+    );
+}
+
+#[test]
+fn rewrite_keeps_the_voice() {
+    let folder = Folder::new("rewrite");
+    let (voice, out) = (looped(), folder.path("out.8svx"));
+    let path = folder.voice("looped.8svx", &voice);
+    let written = |option: &[&str]| {
+        let mut arguments: Vec<&dyn AsRef<OsStr>> = vec![&"rewrite", &path, &out];
+        option.iter().for_each(|o| arguments.push(o));
+        run(&arguments).well();
+        svx::parse_voice(&fs::read(&out).expect("a file was written")).expect("a file that is read")
+    };
+    assert_eq!(written(&[]), voice);
+    assert_eq!(written(&["--raw"]), voice);
+    let mut packed = written(&["--fibonacci"]);
+    assert_eq!(packed.header.compression_byte, 1);
+    assert_eq!(
+        packed.channels[0].octaves.iter().map(Vec::len).collect::<Vec<_>>(),
+        [12, 24]
+    );
+    // Compressed as it is, it stays compressed, and what was decoded once is written again without loss.
+    let again = folder.path("again.8svx");
+    run(&[&"rewrite", &out, &again]).well();
+    assert_eq!(svx::parse_voice(&fs::read(&again).expect("a file")), Ok(packed.clone()));
+    run(&[&"rewrite", &out, &again, &"--raw"]).well();
+    packed.header.compression_byte = 0;
+    assert_eq!(svx::parse_voice(&fs::read(&again).expect("a file")), Ok(packed));
+}
+
+/// Whether every element of an XML text is closed in its place.
+fn well_formed(text: &str) -> bool {
+    let mut open: Vec<&str> = Vec::new();
+    for part in text.split('<').skip(1) {
+        let Some((tag, words)) = part.split_once('>') else {
+            return false;
+        };
+        let name = tag.split_whitespace().next().unwrap_or("");
+        match name.strip_prefix('/') {
+            Some(closed) if open.pop() != Some(closed) => return false,
+            None if !tag.ends_with('/') => open.push(name),
+            _ => {}
+        }
+        let entities = ["amp;", "lt;", "gt;", "quot;", "#39;"];
+        if words
+            .split('&')
+            .skip(1)
+            .any(|after| !entities.iter().any(|entity| after.starts_with(entity)))
+        {
+            return false;
+        }
+    }
+    open.is_empty() && !text.chars().any(|c| c.is_control() && c != '\n')
+}
+
+/// Draws a voice and gives the picture.
+fn drawn(folder: &Folder, voice: &Voice) -> String {
+    let out = folder.path("out.svg");
+    run(&[&"draw", &folder.voice("voice.8svx", voice), &out]).well();
+    let svg = fs::read_to_string(&out).expect("a picture");
+    assert!(svg.starts_with("<svg ") && well_formed(&svg), "{svg}");
+    svg
+}
+
+#[test]
+fn draw_makes_a_picture() {
+    let folder = Folder::new("draw");
+    let svg = drawn(&folder, &looped());
+    assert_eq!(svg.matches("<path ").count(), 2);
+    assert_eq!(
+        svg.matches(">Tom &amp; &lt;Jerry&gt;<").count(),
+        2,
+        "the title, for eyes and for readers"
+    );
+    for words in [
+        "Octave 0",
+        "Octave 1",
+        "one-shot 4",
+        "loop 8",
+        "-128",
+        "127",
+        "key-up",
+        "100%",
+    ] {
+        assert!(svg.contains(&format!(">{words}<")), "{words}");
+    }
+    let svg = drawn(&folder, &stereo());
+    assert!(svg.matches("<path ").count() == 2 && svg.contains(">left<"), "{svg}");
+    assert!(svg.contains(">voice.8svx<"), "without a name, the file's");
+}
+
+#[test]
+fn a_picture_of_many_samples_stays_small() {
+    let folder = Folder::new("large-picture");
+    let mut voice = looped();
+    voice.header = VoiceHeader {
+        one_shot_hi_samples: 100_000,
+        ct_octave: 1,
+        ..VoiceHeader::default()
+    };
+    voice.channels = vec![ChannelSamples {
+        octaves: vec![wave(100_000, 3)],
+    }];
+    voice.metadata = vec![("title".into(), "\u{202e}\u{7}\u{fffe} \u{3042}".repeat(40))];
+    let svg = drawn(&folder, &voice);
+    assert!(svg.len() < 40_000, "columns and not samples: {}", svg.len());
+    assert!(svg.contains("…<") && svg.contains(">100,000 samples<"), "{svg}");
+}
+
+#[test]
+fn a_drawn_level_is_held_between_silence_and_full() {
+    let folder = Folder::new("level");
+    let mut voice = looped();
+    voice.attack = vec![points(&[(0, 99_999), (10, -99_999), (10, 99_999), (0, 65_536)])];
+    let svg = drawn(&folder, &voice);
+    let line = svg
+        .split("<polyline points=\"")
+        .nth(1)
+        .and_then(|rest| rest.split('"').next())
+        .expect("a line");
+    let place = |pair: &str| {
+        pair.split_once(',')
+            .map(|(x, y)| (x.parse().expect("x"), y.parse().expect("y")))
+    };
+    let places: Vec<(f64, f64)> = line.split(' ').filter_map(place).collect();
+    // From 99,999 to -99,999 in 10 ms: full until 1.72 ms, silent from 5 ms on; and so back. All ends at 50 ms.
+    let corners = [
+        (0.0, 0.0),
+        (0.0, 1.0),
+        (0.0, 1.0),
+        (1.72, 1.0),
+        (5.0, 0.0),
+        (10.0, 0.0),
+        (15.0, 0.0),
+        (18.28, 1.0),
+    ];
+    let corners = [&corners[..], &[(20.0, 1.0), (20.0, 1.0), (50.0, 0.0)]].concat();
+    let (start, end) = (places[0], places[places.len() - 1]);
+    assert_eq!(places.len(), corners.len(), "{line}");
+    for ((x, y), (ms, level)) in places.iter().zip(corners) {
+        let (expected_x, expected_y) = (start.0 + (end.0 - start.0) * ms / 50.0, start.1 - 120.0 * level);
+        assert!((x - expected_x).abs() < 0.2 && (y - expected_y).abs() < 0.2, "{line}");
+    }
+}
+
+#[test]
+fn the_input_is_not_written_over() {
+    let folder = Folder::new("over");
+    let path = folder.voice("looped.8svx", &looped());
+    let (bytes, link, hard) = (
+        fs::read(&path).expect("a file"),
+        folder.path("link"),
+        folder.path("hard"),
+    );
+    std::os::unix::fs::symlink(&path, &link).expect("a link");
+    fs::hard_link(&path, &hard).expect("a second name");
+    for command in ["stem", "raw", "rewrite", "draw"] {
+        for out in [
+            &path,
+            &link,
+            &hard,
+            &folder
+                .path("../")
+                .join(folder.0.file_name().expect("a name"))
+                .join("hard"),
+        ] {
+            run(&[&command, &path, out]).fails(2, "isn't written over");
+        }
+        run(&[&command, &link, &path]).fails(2, "isn't written over");
+        assert_eq!(fs::read(&path).expect("a file"), bytes);
+    }
+}
+
+#[test]
+fn output_that_cannot_be_written_is_2() {
+    let folder = Folder::new("output");
+    let path = folder.file("example.8svx", &EXAMPLE);
+    for command in ["stem", "raw", "rewrite", "draw"] {
+        run(&[&command, &path, &folder.path("missing/out")]).fails(2, "no such file or directory");
+        run(&[&command, &path, &folder.0]).fails(2, "is a directory");
+        if Path::new("/dev/full").exists() {
+            run(&[&command, &path, &"/dev/full"]).fails(2, "/dev/full: no space left");
+        }
+    }
+}
+
+#[test]
+fn a_file_that_cannot_be_finished_is_removed() {
+    let folder = Folder::new("half");
+    let (path, out) = (folder.voice("looped.8svx", &looped()), folder.path("out.wav"));
+    // The shell lets no file grow past a few KiB, and has the signal ignored that would end the tool.
+    let script = "trap '' XFSZ; ulimit -f 8; exec \"$@\"";
+    let mut command = Command::new("sh");
+    command
+        .args(["-c", script, "sh", env!("CARGO_BIN_EXE_svx"), "stem"])
+        .args([&path, &out]);
+    let ran = command.output().expect("a shell");
+    assert_eq!((ran.status.code(), ran.stdout.len()), (Some(2), 0));
+    assert_eq!(
+        String::from_utf8_lossy(&ran.stderr),
+        format!("svx: {}: file too large\n", out.display())
+    );
+    assert!(!out.exists());
+}
+
+#[test]
+fn a_reader_that_goes_away_is_no_failure() {
+    let folder = Folder::new("pipe");
+    let path = folder.voice("looped.8svx", &looped());
+    let script = "\"$@\" | head -c 100 | wc -c; \"$1\" info \"$3\" | true";
+    let mut command = Command::new("sh");
+    command
+        .args(["-c", script, "sh", env!("CARGO_BIN_EXE_svx"), "stem"])
+        .args([path.as_os_str(), OsStr::new("-")]);
+    let ran = command.output().expect("a shell");
+    assert_eq!(
+        (String::from_utf8_lossy(&ran.stdout).trim(), ran.stderr.len()),
+        ("100", 0)
+    );
+}
+
+/// The voices of a folder in the repository, if it is there.
+fn repository(folder: &str) -> Vec<PathBuf> {
+    let folder = Path::new(env!("CARGO_MANIFEST_DIR")).join("../../voices").join(folder);
+    let entries = fs::read_dir(folder).map(|entries| entries.flatten().map(|entry| entry.path()).collect());
+    let mut voices: Vec<PathBuf> = entries.unwrap_or_default();
+    voices.retain(|path| path.extension().is_some_and(|e| e == "8svx"));
+    voices.sort();
+    voices
+}
+
+/// The number in front of a file's name.
+fn number(path: &Path) -> u32 {
+    let name = path.file_name().expect("a name").to_string_lossy().into_owned();
+    let digits: String = name.chars().take_while(char::is_ascii_digit).collect();
+    digits.parse().expect("a number in front of the name")
+}
+
+#[test]
+fn every_voice_of_the_repository_is_told_and_played() {
+    let folder = Folder::new("voices");
+    for path in repository("") {
+        let voice = svx::parse_voice(&fs::read(&path).expect("a file")).expect("a voice");
+        assert_eq!(run(&[&"check", &path]).well().out, format!("{}: ok\n", path.display()));
+        assert!(run(&[&"info", &path]).well().out.ends_with("can be played\n"));
+        let out = run(&[&"null", &path, &"--rate=8000"]).well().out;
+        assert_eq!(out.matches(": 0 frames differ").count(), 4);
+        let note = Note::start(
+            0,
+            (u64::from(voice.header.samples_per_sec) * 65_536 / 44_100) as u32,
+            44_100,
+        );
+        let expected = filled(&voice, note, 20_000, Some(15_000));
+        assert_eq!(
+            stem(&folder, &path, &["--frames=20000", "--key-up=15000"]),
+            (44_100, expected)
+        );
+    }
+}
+
+#[test]
+fn every_voice_of_the_repository_is_written_and_drawn() {
+    let folder = Folder::new("written");
+    let out = folder.path("out");
+    for path in repository("") {
+        let voice = svx::parse_voice(&fs::read(&path).expect("a file")).expect("a voice");
+        let sides: usize = voice.channels.iter().map(ChannelSamples::total_len).sum();
+        assert_eq!(run(&[&"raw", &path, &"-"]).well().bytes.len(), sides);
+        run(&[&"rewrite", &path, &out]).well();
+        assert_eq!(
+            svx::parse_voice(&fs::read(&out).expect("a file")),
+            Ok(voice.clone()),
+            "{}",
+            path.display()
+        );
+        let svg = drawn(&folder, &voice);
+        assert_eq!(
+            svg.matches("<path ").count(),
+            voice.octave_count() * voice.channel_count()
+        );
+    }
+}
+
+#[test]
+fn every_damaged_voice_is_refused_by_its_number() {
+    for path in repository("damaged") {
+        let ran = run(&[&"check", &path]);
+        let line = format!("{}: refused by {}: ", path.display(), number(&path));
+        assert!(
+            ran.status == Some(1) && ran.err.is_empty() && ran.out.starts_with(&line),
+            "{}",
+            ran.out
+        );
+        assert_eq!(ran.out.lines().count(), 1);
+        run(&[&"info", &path]).fails(1, &line);
+    }
+    let folder = Folder::new("unplayable");
+    for path in repository("unplayable") {
+        run(&[&"check", &path]).well();
+        run(&[&"stem", &path, &folder.path("out.wav")]).fails(1, &format!("refused by {}: ", number(&path)));
+        assert!(!folder.path("out.wav").exists());
+    }
+}
