@@ -10,10 +10,10 @@ use Rattle.field.proofs.BigEndianLaws.{bytes-take}
 use Rattle.chunk.specs.Chunk.{itemsFrom, endOf}
 use Rattle.sheet.specs.Allowed.{Allowed}
 use Rattle.sheet.specs.Voice.{isStereo}
-use Rattle.grammar.proofs.Theorem.{judged-flat, read-flat}
-use Rattle.sides.proofs.SideLaws.{sides-suit, sides-total, sides-known}
-use Rattle.sides.proofs.SampleLaws.{sides-samples}
-use Rattle.form_sheet.proofs.VoiceLaws.{form-allowed, form-tidy}
+use Rattle.sheet_grammar.proofs.Theorem.{judged-flat, read-flat}
+use Rattle.body_read.proofs.SideLaws.{sides-suit, sides-total, sides-known}
+use Rattle.body_read.proofs.SampleLaws.{sides-samples}
+use Rattle.sheet_read.proofs.VoiceLaws.{form-allowed, form-tidy}
 use Rattle.voice_read.specs.ReadVoice.{Reading, formOf, readVoice}
 use Rattle.voice_read.proofs.ReadLaws.{file-given}
 use Rattle.demands.specs.Demand2.{TidyTexts, Acceptable}

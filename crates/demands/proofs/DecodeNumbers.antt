@@ -12,7 +12,7 @@ use Rattle.header.specs.declared.compression.Compression.the-variants.{None, Fi
 use Rattle.fibonacci.specs.Decode.{fibChannel}
 use Rattle.samples.specs.Stream.{stream}
 use Rattle.samples.specs.Halves.{leftHalf, rightHalf, uneven}
-use Rattle.body.specs.Body.{oneChannel, twoChannels, decodedBody}
+use Rattle.body_decode.specs.Body.{oneChannel, twoChannels, decodedBody}
 use Rattle.demands.specs.Demand1.{Among, bodyNumbers}
 use Rattle.demands.proofs.NumberLaws.{one-of, Within, by-test, then-within}
 

@@ -15,19 +15,19 @@ use Rattle.header.specs.declared.compression.Compression.the-variants.{None}
 use Rattle.header.specs.declared.compression.KnownCompression.the-variants.{Known}
 use Rattle.fibonacci.proofs.Survive.{survives}
 use Rattle.chunk.specs.ChunkBytes.{pad, chunkBytes}
-use Rattle.encode_body.specs.BodyBytes.{channelBytes, bodyBytes}
+use Rattle.body_write.specs.BodyBytes.{channelBytes, bodyBytes}
 use Rattle.sheet.specs.Allowed.{Allowed}
 use Rattle.sheet.specs.Flat.{flat}
 use Rattle.sheet.specs.Judge.{judged, ifSound}
 use Rattle.sheet.specs.Read.{readSheet}
 use Rattle.sheet.specs.declared.judge.Judged.{Judged}
 use Rattle.sheet.specs.declared.judge.Judged.the-variants as judged
-use Rattle.grammar.proofs.Theorem.{judged-flat, flat-read, allowed-read}
-use Rattle.sheet_form.specs.VoiceChunks.{voiceChunks}
-use Rattle.sides.specs.Sides.{Sides, lengthsSuit}
+use Rattle.sheet_grammar.proofs.Theorem.{judged-flat, flat-read, allowed-read}
+use Rattle.sheet_write.specs.VoiceChunks.{voiceChunks}
+use Rattle.body_read.specs.Sides.{Sides, lengthsSuit}
 use Rattle.voice_read.specs.ReadVoice.{Reading, readVoice}
 use Rattle.voice_write.specs.WriteVoice.{contents, fileOf, writeVoice, writeSheet}
-use Rattle.round_trip.proofs.Theorem.{round-trip}
+use Rattle.voice_round_trip.proofs.Theorem.{round-trip}
 use Rattle.demands.specs.Demand2.{TidyTexts, FlatForm, exampleFile, exampleVoice, exampleSides, Demand2}
 use Rattle.demands.proofs.Accepted.{read-sound, read-samples}
 

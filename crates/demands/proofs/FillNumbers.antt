@@ -22,11 +22,11 @@ use Rattle.sheet.specs.Read.{readSheet}
 use Rattle.sheet.specs.Voice.{Voice}
 use Rattle.sheet.specs.declared.judge.Judged.{Judged}
 use Rattle.sheet.specs.declared.judge.Judged.the-variants as judged
-use Rattle.sides.specs.Sides.{Sides}
-use Rattle.frame.specs.declared.Frame.{Frame}
-use Rattle.fill_rules.specs.Rules.{Rule, Holds, NoneHolds, keyUpAhead, fillRules}
-use Rattle.fill_rules.specs.declared.«note_rules».Request.{Request}
-use Rattle.fill_rules.proofs.RuleLaws.{rules-are, not-ahead, never-ahead}
+use Rattle.body_read.specs.Sides.{Sides}
+use Rattle.note_frame.specs.declared.Frame.{Frame}
+use Rattle.note_rules.specs.Rules.{Rule, Holds, NoneHolds, keyUpAhead, fillRules}
+use Rattle.note_rules.specs.declared.state.Request.{Request}
+use Rattle.note_rules.proofs.RuleLaws.{rules-are, not-ahead, never-ahead}
 use Rattle.note.specs.Fill.{fillVoice, fillSheet, answerOf}
 use Rattle.note.proofs.FillLaws.{rulesOf, rule-holds, no-rule}
 use Rattle.voice_read.specs.ReadVoice.{Reading, readVoice}

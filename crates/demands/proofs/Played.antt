@@ -14,10 +14,10 @@ use Rattle.refusal.specs.Numbers.{bufferShort}
 use Rattle.refusal.specs.Outcome.{Outcome, gives, refuses, andThen}
 use Rattle.field.specs.BigEndian.{Bytes}
 use Rattle.sheet.specs.Flat.{flat}
-use Rattle.frame.specs.declared.Frame.{Frame}
-use Rattle.fill_rules.specs.declared.«note_rules».Key.{Key}
-use Rattle.fill_rules.specs.declared.«note_rules».Key.the-variants.{Held, Released}
-use Rattle.fill_rules.proofs.RuleLaws.{NotAhead, never-ahead}
+use Rattle.note_frame.specs.declared.Frame.{Frame}
+use Rattle.note_rules.specs.declared.state.Key.{Key}
+use Rattle.note_rules.specs.declared.state.Key.the-variants.{Held, Released}
+use Rattle.note_rules.proofs.RuleLaws.{NotAhead, never-ahead}
 use Rattle.note.specs.Fill.{fillSheet, answerOf, noteAfter}
 use Rattle.note.specs.Note.{startOf, keyUpOf, requestOf}
 use Rattle.note.specs.declared.Note.{Note}

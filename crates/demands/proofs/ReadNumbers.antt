@@ -17,12 +17,12 @@ use Rattle.header.specs.declared.compression.Compression.{Compression}
 use Rattle.header.specs.declared.«voice_header».VoiceHeader.{VoiceHeader}
 use Rattle.samples.specs.Stream.{stream}
 use Rattle.samples.specs.Halves.{leftHalf, rightHalf, uneven}
-use Rattle.sides.specs.Sides.{octavesOf, channelSamples, oneSide, twoSides, bodySides}
+use Rattle.body_read.specs.Sides.{octavesOf, channelSamples, oneSide, twoSides, bodySides}
 use Rattle.chunk.specs.Chunk.{Item, itemsFrom}
 use Rattle.form.specs.Names.{form, formType, vhdr, body}
 use Rattle.form.specs.FirstBad.{noneCame, firstBad}
 use Rattle.form.specs.Find.{firstOf}
-use Rattle.form_sheet.specs.FormVoice.{formVoice}
+use Rattle.sheet_read.specs.FormVoice.{formVoice}
 use Rattle.sheet.specs.Voice.{isStereo}
 use Rattle.voice_read.specs.ReadVoice.{Reading, withChunk, readItems, formOf, headRefusal, readVoice}
 use Rattle.demands.specs.Demand1.{Among, readingNumbers}

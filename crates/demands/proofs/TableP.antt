@@ -5,18 +5,18 @@ use Rattle.refusal.specs.Outcome.{gives}
 use Rattle.header.specs.Octaves.{totalSamples}
 use Rattle.header.proofs.OctaveLaws as octaves
 use Rattle.small_chunks.specs.Pan.{heldToUnity}
-use Rattle.level.specs.Level.{scaledBy, onTheWay}
+use Rattle.envelope.specs.Level.{scaledBy, onTheWay}
 use Rattle.envelope.specs.Envelope.{levelAt}
-use Rattle.frame.specs.Frame.{faded, beforeSides, value, frameOf}
+use Rattle.note_frame.specs.Frame.{faded, beforeSides, value, frameOf}
 use Rattle.fibonacci.proofs.Examples as fibonacci
-use Rattle.sides.specs.Sides.{lengthsSuit}
-use Rattle.path.specs.Path.{pathOf, loopPath, joinedLength, allValid}
-use Rattle.gains.specs.Gains.{gainsOf}
-use Rattle.gains.specs.Shares.{sharesOf}
-use Rattle.block.specs.Frames.{framesFrom, interleaved, sounding}
-use Rattle.fill_rules.specs.Rules.{firstHolding, fillRules}
+use Rattle.body_read.specs.Sides.{lengthsSuit}
+use Rattle.note_path.specs.Path.{pathOf, loopPath, joinedLength, allValid}
+use Rattle.note_gains.specs.Gains.{gainsOf}
+use Rattle.note_gains.specs.Shares.{sharesOf}
+use Rattle.note_stage.specs.Frames.{framesFrom, interleaved, sounding}
+use Rattle.note_rules.specs.Rules.{firstHolding, fillRules}
 use Rattle.note.specs.Fill.{fillVoice}
-use Rattle.next_block.specs.Frame.{attackLevel, levelOf, frame}
+use Rattle.note_block.specs.Frame.{attackLevel, levelOf, frame}
 use Rattle.demands.specs.Reckoning.{reckonFrom}
 use Rattle.demands.specs.TableP.{TableP}
 use Rattle.demands.proofs.Demand2.{demand2}

@@ -8,7 +8,7 @@ use lib.ListN.{length}
 use Rattle.refusal.specs.Numbers.{compression, octaveTotal, textIllFormed, sampleLengths, formLength}
 use Rattle.refusal.specs.Outcome.{Outcome}
 use Rattle.header.specs.Octaves.{totalSamples}
-use Rattle.sides.specs.Sides.{Sides, lengthsSuit}
+use Rattle.body_read.specs.Sides.{Sides, lengthsSuit}
 use Rattle.sheet.specs.Voice.{Voice, isStereo}
 use Rattle.sheet.specs.Read.{readSheet, groups}
 use Rattle.sheet.specs.Record.{records}

@@ -17,13 +17,13 @@ use Rattle.refusal.specs.Outcome.{Outcome, gives, refuses, answer, bufferAfter}
 use Rattle.refusal.specs.declared.Output.the-variants as Output
 use Rattle.fibonacci.specs.Decode.{fibChannel}
 use Rattle.fibonacci.specs.Encode.{fibBytes}
-use Rattle.body.specs.Body.{decodedBody}
+use Rattle.body_decode.specs.Body.{decodedBody}
 use Rattle.sheet.specs.Flat.{flat}
 use Rattle.sheet.specs.Judge.{judged}
 use Rattle.sheet.specs.Record.{recordAt}
 use Rattle.sheet.specs.declared.judge.Judged.the-variants as Judged
 use Rattle.sheet.specs.declared.record.RecordStep.the-variants as RecordStep
-use Rattle.sides.specs.Sides.{Sides}
+use Rattle.body_read.specs.Sides.{Sides}
 use Rattle.note.specs.Fill.{answerOf as fillAnswer, fillSheet, noteAfter, blockAfter}
 use Rattle.note.specs.Note.{requestOf}
 use Rattle.note.specs.declared.Answer.the-variants as Answer

@@ -25,7 +25,7 @@ use Rattle.sheet.specs.Judge.{judged}
 use Rattle.sheet.specs.Read.{readSheet}
 use Rattle.sheet.specs.Voice.{Voice, isStereo}
 use Rattle.sheet.specs.declared.judge.Judged.the-variants.{Sound}
-use Rattle.sides.specs.Sides.{Sides, lengthsSuit}
+use Rattle.body_read.specs.Sides.{Sides, lengthsSuit}
 use Rattle.voice_read.specs.ReadVoice.{Reading, readVoice}
 use Rattle.voice_write.specs.WriteVoice.{writeVoice, writeSheet}
 

@@ -15,10 +15,10 @@ use Rattle.sheet.specs.Flat.{flat}
 use Rattle.sheet.specs.Judge.{judged}
 use Rattle.sheet.specs.Read.{readSheet}
 use Rattle.sheet.specs.declared.judge.Judged.the-variants as Judged
-use Rattle.sides.specs.Sides.{Sides}
-use Rattle.frame.specs.declared.Frame.{Frame}
-use Rattle.fill_rules.specs.Rules.{Holds, NoneHolds, fillRules}
-use Rattle.fill_rules.specs.declared.«note_rules».Request.{Request}
+use Rattle.body_read.specs.Sides.{Sides}
+use Rattle.note_frame.specs.declared.Frame.{Frame}
+use Rattle.note_rules.specs.Rules.{Holds, NoneHolds, fillRules}
+use Rattle.note_rules.specs.declared.state.Request.{Request}
 use Rattle.note.specs.Fill.{fillSheet, answerOf, noteAfter, blockAfter}
 use Rattle.note.specs.Note.{startOf, keyUpOf, requestOf}
 use Rattle.note.specs.declared.Answer.{Answer}

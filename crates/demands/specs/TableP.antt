@@ -8,12 +8,12 @@ use Rattle.refusal.specs.Outcome.{gives, refuses}
 use Rattle.header.specs.Octaves.{total}
 use Rattle.header.specs.declared.«voice_header».Total.the-variants.{Sum, Refused}
 use Rattle.header.specs.declared.«voice_header».VoiceHeader.{VoiceHeader}
-use Rattle.small_chunks.specs.declared.envelope.EgPoint.{EgPoint}
+use Rattle.small_chunks.specs.declared.points.EgPoint.{EgPoint}
 use Rattle.fibonacci.specs.Decode.{fibChannel}
 use Rattle.fibonacci.specs.Encode.{fibBytes}
 use Rattle.envelope.specs.Envelope.{levelAt}
-use Rattle.frame.specs.Frame.{value}
-use Rattle.gains.specs.Gains.{gainsOf}
+use Rattle.note_frame.specs.Frame.{value}
+use Rattle.note_gains.specs.Gains.{gainsOf}
 use Rattle.note.specs.declared.Answer.the-variants as Answer
 use Rattle.demands.specs.Demand2.{exampleFile, exampleVoice}
 use Rattle.demands.specs.Reckoning.{fill, reckon}

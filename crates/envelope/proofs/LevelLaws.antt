@@ -13,9 +13,9 @@ use mathlib.Core.List.{List, [], _∷_}
 use mathlib.Core.Path.{_≡_, refl}
 use native.Mathlib.Omega.{arith}
 use Rattle.field.proofs.TaggedLaws.{parts-more, parts-end}
-use Rattle.level.specs.Level.{onTheWay}
+use Rattle.envelope.specs.Level.{onTheWay}
 use Rattle.small_chunks.specs.Envelope.{pointOf, envelopePoints}
-use Rattle.small_chunks.specs.declared.envelope.EgPoint.{EgPoint}
+use Rattle.small_chunks.specs.declared.points.EgPoint.{EgPoint}
 use Rattle.small_chunks.proofs.FieldLaws.{point-take}
 use Rattle.envelope.specs.Envelope.{levelAt, totalDuration}
 

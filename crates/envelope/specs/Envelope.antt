@@ -4,8 +4,8 @@ use mathlib.Core.Bool.{cond}
 use mathlib.Core.List.{List, [], _∷_}
 use lib.Dec.{leb}
 use lib.IntN.{ℤ}
-use Rattle.level.specs.Level.{onTheWay}
-use Rattle.small_chunks.specs.declared.envelope.EgPoint.{EgPoint}
+use Rattle.envelope.specs.Level.{onTheWay}
+use Rattle.small_chunks.specs.declared.points.EgPoint.{EgPoint}
 
 -- t milliseconds after `level`: a point that has ended by then sets the level (one of duration 0 has), the first other is on the way
 unfoldable pub levelAt : List EgPoint → ℤ → ℕ → ℤ

@@ -1,5 +1,8 @@
-// The level of an envelope at a time, and how long an envelope takes.
-use level::on_the_way;
+// The level of an envelope at a time, and how long an envelope takes; and quotients that cut toward zero, as its levels are made of.
+mod level;
+
+pub use level::on_the_way;
+pub use level::scaled;
 use small_chunks::EgPoint;
 ghost use mathlib.Core.Path.{_≡_};
 ghost use Prim.Native.Nat.{_-_, _^_, min};

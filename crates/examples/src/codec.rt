@@ -6,7 +6,7 @@ use crate::print::number;
 use crate::print::refused;
 use crate::print::samples;
 use crate::print::say;
-use body::decode_body;
+use body_decode::decode_body;
 use fibonacci::fibonacci_decode_channel;
 use fibonacci::fibonacci_encode_channel;
 use refusal::Output;

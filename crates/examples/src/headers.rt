@@ -99,11 +99,11 @@ fn segment(start: u32, end: u32, hi: u64) {
 
 fn floats() {
     say(b"volume FFFFFFFF is 65536.0:");
-    yes_or_no(volume::volume_f32(0xFFFF_FFFF) == 65536.0);
+    yes_or_no(header_volume::volume_f32(0xFFFF_FFFF) == 65536.0);
     say(b"volume 01000001 is 256.0:");
-    yes_or_no(volume::volume_f32(0x0100_0001) == 256.0);
+    yes_or_no(header_volume::volume_f32(0x0100_0001) == 256.0);
     say(b"volume 01000003 is 256.00006103515625:");
-    yes_or_no(volume::volume_f32(0x0100_0003) == 256.00006103515625);
+    yes_or_no(header_volume::volume_f32(0x0100_0003) == 256.00006103515625);
     let quarter = Pan { position: 16384 }.weights();
     say(b"pan 16,384 is left 0.25:");
     yes_or_no(quarter.left == 0.25);

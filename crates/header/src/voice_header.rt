@@ -8,7 +8,7 @@ ghost use Rattle.header.specs.Compression.{knownCompression};
 ghost use Rattle.header.specs.Frequency.{cycleFrequency};
 ghost use Rattle.header.specs.Header.{headerOf, headerBytes, parsedHeader};
 ghost use Rattle.header.specs.Octaves.{hi, inOctave, total, loops};
-ghost use Rattle.volume.specs.Volume.{volumeFloat};
+ghost use Rattle.header_volume.specs.Volume.{volumeFloat};
 
 pub struct VoiceHeader {
     // Samples of the highest octave that are played once.
@@ -187,7 +187,7 @@ impl VoiceHeader {
     pub fn volume_f32(self) -> f32
         ensures { λ r. ⌜ r ≡ volumeFloat (self .volume) ⌝ }
     {
-        volume::volume_f32(self.volume)
+        header_volume::volume_f32(self.volume)
     }
 
     // The highest octave's frequency.

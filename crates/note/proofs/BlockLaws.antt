@@ -7,14 +7,14 @@ use mathlib.Core.Path.{_≡_, refl, sym, _∙_}
 use lib.ListN.{length}
 use Rattle.refusal.specs.Outcome.{Outcome, gives}
 use Rattle.sheet.specs.Voice.{Voice}
-use Rattle.sides.specs.Sides.{Sides}
-use Rattle.frame.specs.declared.Frame.{Frame}
-use Rattle.block.proofs.FramesLaws.{frames-shift}
-use Rattle.fill_rules.specs.declared.«note_rules».Request.{Request}
-use Rattle.fill_rules.proofs.RuleLaws.{NotAhead, capped, rules-capped}
+use Rattle.body_read.specs.Sides.{Sides}
+use Rattle.note_frame.specs.declared.Frame.{Frame}
+use Rattle.note_stage.proofs.FramesLaws.{frames-shift}
+use Rattle.note_rules.specs.declared.state.Request.{Request}
+use Rattle.note_rules.proofs.RuleLaws.{NotAhead, capped, rules-capped}
 use Rattle.note.specs.Fill.{fillVoice}
-use Rattle.next_block.specs.Frame.{frame}
-use Rattle.next_block.proofs.FrameLaws.{frame-capped}
+use Rattle.note_block.specs.Frame.{frame}
+use Rattle.note_block.proofs.FrameLaws.{frame-capped}
 use Rattle.note.proofs.FillLaws.{nextFrames, fill-accepted, first-zero, fill-same}
 
 module _ (v : Voice) (s : Sides) where

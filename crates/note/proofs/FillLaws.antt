@@ -13,13 +13,13 @@ use lib.ListN.{length}
 use Rattle.laws.proofs.Cases.{impossible}
 use Rattle.refusal.specs.Outcome.{Outcome, gives, refuses}
 use Rattle.sheet.specs.Voice.{Voice}
-use Rattle.sides.specs.Sides.{Sides}
-use Rattle.frame.specs.declared.Frame.{Frame}
-use Rattle.block.specs.Frames.{framesFrom}
-use Rattle.fill_rules.specs.Rules.{Rule, Holds, NoneHolds, firstHolding, fillRules}
-use Rattle.fill_rules.specs.declared.«note_rules».Request.{Request}
-use Rattle.fill_rules.proofs.RuleLaws.{none-holds, first-holds, rules-numbered}
-use Rattle.next_block.specs.Frame.{frame}
+use Rattle.body_read.specs.Sides.{Sides}
+use Rattle.note_frame.specs.declared.Frame.{Frame}
+use Rattle.note_stage.specs.Frames.{framesFrom}
+use Rattle.note_rules.specs.Rules.{Rule, Holds, NoneHolds, firstHolding, fillRules}
+use Rattle.note_rules.specs.declared.state.Request.{Request}
+use Rattle.note_rules.proofs.RuleLaws.{none-holds, first-holds, rules-numbered}
+use Rattle.note_block.specs.Frame.{frame}
 use Rattle.note.specs.Fill.{unlessRefused, fillVoice}
 
 -- a number other than 0 turns a value back, and nothing else does

@@ -9,12 +9,12 @@ use Rattle.refusal.specs.Outcome.{Outcome, gives, refuses}
 use Rattle.sheet.specs.Judge.{judged, ifSound}
 use Rattle.sheet.specs.Read.{readSheet}
 use Rattle.sheet.specs.Voice.{Voice}
-use Rattle.sides.specs.Sides.{Sides}
-use Rattle.frame.specs.declared.Frame.{Frame}
-use Rattle.block.specs.Frames.{framesFrom, interleaved, sounding}
-use Rattle.fill_rules.specs.Rules.{firstHolding, fillRules}
-use Rattle.fill_rules.specs.declared.«note_rules».Request.{Request}
-use Rattle.next_block.specs.Frame.{frame}
+use Rattle.body_read.specs.Sides.{Sides}
+use Rattle.note_frame.specs.declared.Frame.{Frame}
+use Rattle.note_stage.specs.Frames.{framesFrom, interleaved, sounding}
+use Rattle.note_rules.specs.Rules.{firstHolding, fillRules}
+use Rattle.note_rules.specs.declared.state.Request.{Request}
+use Rattle.note_block.specs.Frame.{frame}
 use Rattle.note.specs.Note.{advanceOf}
 use Rattle.note.specs.declared.Note.{Note}
 use Rattle.note.specs.declared.Answer.{Answer}

@@ -1,8 +1,8 @@
 -- What each call makes of a note.
 use Prim.Native.Nat.{ℕ, _+_, min}
-use Rattle.fill_rules.specs.declared.«note_rules».Key.{Key}
-use Rattle.fill_rules.specs.declared.«note_rules».Key.the-variants.{Held, Released}
-use Rattle.fill_rules.specs.declared.«note_rules».Request.{Request}
+use Rattle.note_rules.specs.declared.state.Key.{Key}
+use Rattle.note_rules.specs.declared.state.Key.the-variants.{Held, Released}
+use Rattle.note_rules.specs.declared.state.Request.{Request}
 use Rattle.note.specs.declared.Note.{Note}
 
 -- a fresh note: no frames filled, held

@@ -1,11 +1,11 @@
 // A note on a voice: started, filled block by block, and released. Each call takes the note and gives the note after it.
-use fill_rules::Key;
-use fill_rules::Request;
-use fill_rules::fill_refusal;
-use layout::layout_of;
-use next_block::next_block;
+use note_block::next_block;
+use note_rules::Key;
+use note_rules::Request;
+use note_rules::fill_refusal;
 use sheet::Judged;
 use sheet::judge_sheet;
+use sheet_layout::layout_of;
 ghost use mathlib.Core.Path.{_≡_};
 ghost use lib.ListN.{length};
 ghost use Rattle.sheet.specs.Judge.{judged};

@@ -2,10 +2,10 @@
 use crate::part::Part;
 use crate::part::part_of;
 use header::Total;
-use layout::sheet_header;
-use layout::sheet_stereo;
 use sheet::Judged;
 use sheet::judge_sheet;
+use sheet_layout::sheet_header;
+use sheet_layout::sheet_stereo;
 ghost use mathlib.Core.Path.{_≡_};
 ghost use lib.ListN.{length};
 ghost use Rattle.sheet.specs.Judge.{judged};

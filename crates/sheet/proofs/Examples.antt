@@ -10,8 +10,8 @@ use Rattle.sheet.specs.Read.{leading, groups}
 use Rattle.sheet.specs.Record.{headOf, records, recordAt}
 use Rattle.sheet.specs.declared.judge.Judged.the-variants.{Sound, Refused}
 use Rattle.sheet.specs.declared.record.RecordStep.the-variants.{End}
-use Rattle.utf8.specs.Table.{following}
-use Rattle.utf8.specs.Utf8.{matching, firstSubsequence, subsequences, wellFormed}
+use Rattle.text_utf8.specs.Table.{following}
+use Rattle.text_utf8.specs.Utf8.{matching, firstSubsequence, subsequences, wellFormed}
 
 abbrev zeros : ℕ → List ℕ
 zeros zero = []

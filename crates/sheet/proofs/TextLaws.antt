@@ -14,8 +14,8 @@ use Rattle.sheet.specs.Judge.{textsWellFormed}
 use Rattle.sheet.specs.Read.{leading, groups}
 use Rattle.sheet.specs.Record.{Item, entry}
 use Rattle.sheet.specs.TextState.{Texts, textsAfter, allWell}
-use Rattle.utf8.proofs.Theorems.{fed-well}
-use Rattle.utf8.specs.Feed.{complete, fedAll}
+use Rattle.text_utf8.proofs.Theorems.{fed-well}
+use Rattle.text_utf8.specs.Feed.{complete, fedAll}
 
 -- the bytes of the text in hand that are still to come
 abbrev pub textLeft : List Item → List ℕ

@@ -6,10 +6,10 @@ use mathlib.Core.Option.{Option, none, some}
 use mathlib.Core.Path.{_≡_}
 use mir.Syntax.{w32}
 use mir.Val.{SFits}
-use Rattle.utf8.specs.Utf8.{wellFormed}
+use Rattle.text_utf8.specs.Utf8.{wellFormed}
 use Rattle.header.specs.Header.{Fitting}
 use Rattle.small_chunks.specs.declared.pan.Pan.{Pan}
-use Rattle.small_chunks.specs.declared.envelope.EgPoint.{EgPoint}
+use Rattle.small_chunks.specs.declared.points.EgPoint.{EgPoint}
 use Rattle.small_chunks.specs.declared.sequence.SeqnSegment.{SeqnSegment}
 use Rattle.small_chunks.specs.declared.sequence.Fade.{Fade}
 use Rattle.sheet.specs.Voice.{Text, Voice}

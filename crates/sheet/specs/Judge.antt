@@ -5,7 +5,7 @@ use mathlib.Core.Bool.{Bool, true, cond, _&&_}
 use mathlib.Core.List.{List, [], _∷_}
 use Rattle.refusal.specs.Numbers.{textIllFormed}
 use Rattle.refusal.specs.Outcome.{Outcome, refuses}
-use Rattle.utf8.specs.Utf8.{wellFormed}
+use Rattle.text_utf8.specs.Utf8.{wellFormed}
 use Rattle.sheet.specs.Record.{Item, records}
 use Rattle.sheet.specs.Order.{firstWrong}
 use Rattle.sheet.specs.Read.{Group, groups, textIn}

@@ -4,9 +4,9 @@ use lib.Dec.{eqb}
 use mathlib.Core.Bool.{Bool, false, cond, not, _&&_, _||_}
 use mathlib.Core.List.{List, []}
 use mathlib.Core.Option.{Option, some}
-use Rattle.utf8.specs.Table.{Range}
-use Rattle.utf8.specs.Feed.{fed, complete}
-use Rattle.utf8.specs.Lead.{led}
+use Rattle.text_utf8.specs.Table.{Range}
+use Rattle.text_utf8.specs.Feed.{fed, complete}
+use Rattle.text_utf8.specs.Lead.{led}
 use Rattle.sheet.specs.declared.judge.TextState.{TextState}
 
 -- what has to follow in the text in hand (none where it is ill-formed whatever follows), and that an earlier text is ill-formed

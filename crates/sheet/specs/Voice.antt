@@ -7,7 +7,7 @@ use Rattle.header.specs.declared.«voice_header».VoiceHeader.{VoiceHeader}
 use Rattle.small_chunks.specs.declared.channel.ChannelAssignment.{ChannelAssignment}
 use Rattle.small_chunks.specs.declared.channel.ChannelAssignment.the-variants.{Left, Right, Stereo}
 use Rattle.small_chunks.specs.declared.pan.Pan.{Pan}
-use Rattle.small_chunks.specs.declared.envelope.EgPoint.{EgPoint}
+use Rattle.small_chunks.specs.declared.points.EgPoint.{EgPoint}
 use Rattle.small_chunks.specs.declared.sequence.SeqnSegment.{SeqnSegment}
 use Rattle.small_chunks.specs.declared.sequence.Fade.{Fade}
 

@@ -1,10 +1,10 @@
 // A sheet judged in one pass: kinds, order and values, and the texts byte by byte beside them.
 use crate::record::RecordStep;
 use crate::record::record_at;
-use utf8::Lead;
-use utf8::between;
-use utf8::feed;
-use utf8::is_between;
+use text_utf8::Lead;
+use text_utf8::between;
+use text_utf8::feed;
+use text_utf8::is_between;
 ghost use mathlib.Core.Path.{_≡_};
 ghost use Prim.Native.Nat.{_<_};
 ghost use lib.ListN.{getD};

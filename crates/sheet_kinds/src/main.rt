@@ -1,7 +1,7 @@
 // Walks three sheets record by record and prints each record's kind and its body's length, then how the walk ends.
 use libc::STDOUT_FILENO;
 use sheet::RecordStep;
-use sheet_reader::read_step;
+use sheet_records::read_step;
 
 fn say(text: &[u8]) {
     io::write_all(STDOUT_FILENO, text);

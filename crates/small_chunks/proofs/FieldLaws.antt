@@ -23,7 +23,7 @@ use Rattle.field.proofs.SignedLaws.{bits-are, signed-bits, bits-signed}
 use Rattle.small_chunks.specs.Envelope.{pointOf, pointBytes}
 use Rattle.small_chunks.specs.Pan.{panOf, panBytes}
 use Rattle.small_chunks.specs.Sequence.{segmentOf, segmentBytes, fadeOf, fadeBytes}
-use Rattle.small_chunks.specs.declared.envelope.EgPoint.{EgPoint}
+use Rattle.small_chunks.specs.declared.points.EgPoint.{EgPoint}
 use Rattle.small_chunks.specs.declared.pan.Pan.{Pan}
 use Rattle.small_chunks.specs.declared.sequence.Fade.{Fade}
 use Rattle.small_chunks.specs.declared.sequence.SeqnSegment.{SeqnSegment}

@@ -5,7 +5,7 @@ use lib.ListN.{drop}
 use Rattle.field.specs.BigEndian.{bigEndian, bigEndianBytes}
 use Rattle.field.specs.Signed.{signed32, bits32}
 use Rattle.field.specs.Tagged.{parts}
-use Rattle.small_chunks.specs.declared.envelope.EgPoint.{EgPoint}
+use Rattle.small_chunks.specs.declared.points.EgPoint.{EgPoint}
 
 -- the point of six bytes
 unfoldable pub pointOf : List ℕ → EgPoint

@@ -4,17 +4,17 @@
 // A `read` asks that its field lies within the slice, for the crates above, which have judged lengths by then. A `parse`
 // asks nothing: it answers 6 where the chunk is too short, and ignores what lies past the field.
 mod channel;
-mod envelope;
 mod pan;
+mod points;
 mod sequence;
 
 pub use channel::ChannelAssignment;
 pub use channel::ParsedChannel;
-pub use envelope::EgPoint;
 pub use pan::Pan;
 pub use pan::PanWeights;
 pub use pan::ParsedPan;
 pub use pan::held_to_unity;
+pub use points::EgPoint;
 pub use sequence::Fade;
 pub use sequence::ParsedFade;
 pub use sequence::SeqnSegment;

@@ -1,12 +1,12 @@
 // BODY and its channels.
 use crate::hand::hand_length;
-use body::decode_body;
+use body_decode::decode_body;
 use fibonacci::fibonacci_decode_channel;
 use fibonacci::fibonacci_encode_channel;
 ghost use mathlib.Core.Path.{_≡_};
 ghost use lib.ListN.{length};
 ghost use Rattle.refusal.specs.Outcome.{gives, answer, bufferAfter};
-ghost use Rattle.body.specs.Body.{decodedBody};
+ghost use Rattle.body_decode.specs.Body.{decodedBody};
 ghost use Rattle.fibonacci.specs.Decode.{fibChannel};
 ghost use Rattle.fibonacci.specs.Encode.{fibBytes};
 ghost use Rattle.svx.specs.Answers.{outputNumber, outputLength};

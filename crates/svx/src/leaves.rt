@@ -8,7 +8,7 @@ ghost use mathlib.Core.Path.{_≡_};
 ghost use Rattle.envelope.specs.Envelope.{levelAt};
 ghost use Rattle.header.specs.Frequency.{cycleFrequency};
 ghost use Rattle.small_chunks.specs.Envelope.{envelopePoints};
-ghost use Rattle.volume.specs.Volume.{volumeFloat};
+ghost use Rattle.header_volume.specs.Volume.{volumeFloat};
 ghost use Rattle.svx.specs.Shapes.{frequencyOf, weightsAt, PeakShape};
 
 // Where it isn't known, hertz is 0.
@@ -76,7 +76,7 @@ pub extern "C" fn svx_pan_weights(position: i32) -> SvxPan
 pub extern "C" fn svx_volume_f32(volume: u32) -> f32
     ensures { λ r. ⌜ r ≡ volumeFloat volume ⌝ }
 {
-    volume::volume_f32(volume)
+    header_volume::volume_f32(volume)
 }
 
 #[no_mangle]

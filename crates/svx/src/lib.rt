@@ -1,16 +1,20 @@
 // The C interface. Each function hands its arguments to one entry of the library and its answer back: 0, or the refusal's number,
 // with lengths written where the call was accepted and left alone where it was refused.
 mod codec;
+mod files;
 mod hand;
 mod leaves;
 mod notes;
 mod parts;
 mod sheet_walk;
-mod voice;
 
 pub use codec::svx_decode_body;
 pub use codec::svx_fibonacci_decode_channel;
 pub use codec::svx_fibonacci_encode_channel;
+pub use files::svx_encode_voice;
+pub use files::svx_file_length;
+pub use files::svx_parse_voice;
+pub use files::svx_voice_lengths;
 pub use leaves::SvxFrequency;
 pub use leaves::SvxPan;
 pub use leaves::SvxPeak;
@@ -31,7 +35,3 @@ pub use parts::svx_side_samples;
 pub use sheet_walk::SvxRecord;
 pub use sheet_walk::svx_sheet_judge;
 pub use sheet_walk::svx_sheet_record;
-pub use voice::svx_encode_voice;
-pub use voice::svx_file_length;
-pub use voice::svx_parse_voice;
-pub use voice::svx_voice_lengths;

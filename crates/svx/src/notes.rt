@@ -1,7 +1,7 @@
 // Notes.
-use fill_rules::Key;
 use note::Answer;
 use note::Note;
+use note_rules::Key;
 ghost use mathlib.Core.Path.{_≡_};
 ghost use lib.ListN.{length};
 ghost use Rattle.note.specs.Fill.{fillSheet, answerOf, noteAfter, blockAfter};

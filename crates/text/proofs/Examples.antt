@@ -5,8 +5,8 @@ use mathlib.Core.Path.{_≡_, refl}
 use Rattle.laws.specs.Walk.{walk}
 use Rattle.text.specs.Text.{beforeZero, trimStart, trimEnd, trim, clean}
 use Rattle.text.specs.WhiteSpace.{codePoint, isWhiteSpace}
-use Rattle.utf8.specs.Table.{following}
-use Rattle.utf8.specs.Utf8.{matching, firstSubsequence, subsequences, lossy}
+use Rattle.text_utf8.specs.Table.{following}
+use Rattle.text_utf8.specs.Utf8.{matching, firstSubsequence, subsequences, lossy}
 
 -- a space, U+3000, "A", an ill-formed E2 80, U+2009, a zero byte and what lies past it: "A", U+FFFD
 all-of-it : clean (0x20 ∷ 0xE3 ∷ 0x80 ∷ 0x80 ∷ 0x41 ∷ 0xE2 ∷ 0x80 ∷ 0xE2 ∷ 0x80 ∷ 0x89 ∷ 0x00 ∷ 0x42 ∷ []) ≡ 0x41 ∷ 0xEF ∷ 0xBF ∷ 0xBD ∷ []

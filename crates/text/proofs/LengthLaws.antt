@@ -9,11 +9,11 @@ use Rattle.laws.specs.Walk.{each}
 use Rattle.text.proofs.TrimLaws.{endWhite, trim-split}
 use Rattle.text.specs.Place.{startWhite}
 use Rattle.text.specs.Text.{trimStart, trim}
-use Rattle.utf8.proofs.FirstLaws.{IsFirst, noRow, partRow, fullRow}
-use Rattle.utf8.proofs.SpanLaws.{Spans}
-use Rattle.utf8.proofs.SubsequenceLaws.{Consistent, consistent, subsequences-bytes}
-use Rattle.utf8.specs.Step.{subsequencesFrom}
-use Rattle.utf8.specs.Utf8.{Subsequence, subsequences, bytes, replaced, lossy}
+use Rattle.text_utf8.proofs.FirstLaws.{IsFirst, noRow, partRow, fullRow}
+use Rattle.text_utf8.proofs.SpanLaws.{Spans}
+use Rattle.text_utf8.proofs.SubsequenceLaws.{Consistent, consistent, subsequences-bytes}
+use Rattle.text_utf8.specs.Step.{subsequencesFrom}
+use Rattle.text_utf8.specs.Utf8.{Subsequence, subsequences, bytes, replaced, lossy}
 
 -- ---- one subsequence more
 

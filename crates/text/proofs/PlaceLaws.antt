@@ -16,10 +16,10 @@ use Rattle.laws.specs.Walk.{each}
 use Rattle.text.proofs.TrimLaws.{endWhite, start-split, end-split}
 use Rattle.text.specs.Place.{startWhite, textEnd}
 use Rattle.text.specs.Text.{beforeZero, isWhite, trimStart, isEmpty, trimEnd, trim}
-use Rattle.utf8.proofs.SpanLaws.{Spans, span-length}
-use Rattle.utf8.proofs.SubsequenceLaws.{subsequences-bytes}
-use Rattle.utf8.specs.Step.{subsequencesFrom}
-use Rattle.utf8.specs.Utf8.{Subsequence, subsequences, bytes}
+use Rattle.text_utf8.proofs.SpanLaws.{Spans, span-length}
+use Rattle.text_utf8.proofs.SubsequenceLaws.{subsequences-bytes}
+use Rattle.text_utf8.specs.Step.{subsequencesFrom}
+use Rattle.text_utf8.specs.Utf8.{Subsequence, subsequences, bytes}
 
 -- ---- the first zero byte
 

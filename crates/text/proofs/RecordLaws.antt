@@ -12,8 +12,8 @@ use Rattle.laws.proofs.PutLaws.{Underway, underway-step, underway-room}
 use Rattle.laws.specs.Put.{Put}
 use Rattle.text.proofs.LengthLaws.{lossy-step}
 use Rattle.text.specs.TextRecords.{textRecords}
-use Rattle.utf8.proofs.SpanLaws.{Spans}
-use Rattle.utf8.specs.Utf8.{Subsequence, bytes, replaced, lossy}
+use Rattle.text_utf8.proofs.SpanLaws.{Spans}
+use Rattle.text_utf8.specs.Utf8.{Subsequence, bytes, replaced, lossy}
 
 records-append : (a b : List ℕ) → textRecords (a ++ b) ≡ textRecords a ++ textRecords b
 unfolding textRecords

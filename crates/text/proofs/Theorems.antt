@@ -19,9 +19,9 @@ use Rattle.text.proofs.TidyLaws.{both-left, both-right, before-zero-sam
 use Rattle.text.proofs.TrimLaws.{clean-is}
 use Rattle.text.specs.Text.{beforeZero, trim, clean, zeroFree, firstNotWhite, lastNotWhite, tidy}
 use Rattle.text.specs.TextRecords.{textRecords, recordBytes}
-use Rattle.utf8.proofs.SubsequenceLaws.{subsequences-bytes}
-use Rattle.utf8.proofs.Theorems.{lossy-well-formed, lossy-same}
-use Rattle.utf8.specs.Utf8.{subsequences, lossy, wellFormed}
+use Rattle.text_utf8.proofs.SubsequenceLaws.{subsequences-bytes}
+use Rattle.text_utf8.proofs.Theorems.{lossy-well-formed, lossy-same}
+use Rattle.text_utf8.specs.Utf8.{subsequences, lossy, wellFormed}
 
 pub clean-well-formed : (l : List ℕ) → wellFormed (clean l) ≡ true
 clean-well-formed l = rw clean-is (lossy-well-formed (trim (beforeZero l)))

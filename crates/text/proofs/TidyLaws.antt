@@ -12,8 +12,8 @@ use Rattle.laws.specs.Walk.{each}
 use Rattle.text.proofs.TrimLaws.{endWhite, trim-split, trim-subsequences}
 use Rattle.text.specs.Place.{startWhite}
 use Rattle.text.specs.Text.{beforeZero, isWhite, trimStart, isEmpty, trimEnd, trim, zeroFree, firstNotWhite, lastNotWhite, tidy}
-use Rattle.utf8.proofs.SubsequenceLaws.{subsequences-bytes}
-use Rattle.utf8.specs.Utf8.{Subsequence, scalar, illFormed, subsequences, bytes, replaced, lossy}
+use Rattle.text_utf8.proofs.SubsequenceLaws.{subsequences-bytes}
+use Rattle.text_utf8.specs.Utf8.{Subsequence, scalar, illFormed, subsequences, bytes, replaced, lossy}
 
 pub both-left : (a b : Bool) → (a && b) ≡ true → a ≡ true
 both-left true b h = refl

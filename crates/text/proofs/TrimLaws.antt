@@ -9,9 +9,9 @@ use Rattle.laws.specs.Walk.{each}
 use Rattle.text.specs.Place.{startWhite}
 use Rattle.text.specs.Text.{beforeZero, isWhite, trimStart, isEmpty, trimEnd, trim, clean}
 use Rattle.text.specs.WhiteSpace.{codePoint, isWhiteSpace}
-use Rattle.utf8.proofs.FirstLaws.{IsFirst}
-use Rattle.utf8.proofs.SubsequenceLaws.{first-shorter, Consistent, consistent-same, consistent, subsequences-bytes, each-replaced, lossy-subsequences}
-use Rattle.utf8.specs.Utf8.{Subsequence, scalar, illFormed, subsequences, bytes, replaced, lossy}
+use Rattle.text_utf8.proofs.FirstLaws.{IsFirst}
+use Rattle.text_utf8.proofs.SubsequenceLaws.{first-shorter, Consistent, consistent-same, consistent, subsequences-bytes, each-replaced, lossy-subsequences}
+use Rattle.text_utf8.specs.Utf8.{Subsequence, scalar, illFormed, subsequences, bytes, replaced, lossy}
 
 -- ---- a part of the bytes
 

@@ -12,7 +12,7 @@ use mathlib.Core.List.{List, [], _∷_, _++_}
 use mathlib.Core.Path.{_≡_, refl, sym, ap, _∙_}
 use native.Mathlib.Omega.{arith}
 use Rattle.text.specs.WhiteSpace.{codePoint, whiteSpace, anyOf, isWhiteSpace}
-use Rattle.utf8.specs.Table.{Range, to, within}
+use Rattle.text_utf8.specs.Table.{Range, to, within}
 
 -- ---- code points
 

@@ -5,7 +5,7 @@ use mathlib.Core.Bool.{cond}
 use mathlib.Core.List.{List, [], _∷_}
 use Rattle.laws.specs.Walk.{each}
 use Rattle.text.specs.Text.{isWhite}
-use Rattle.utf8.specs.Utf8.{Subsequence, subsequences, bytes}
+use Rattle.text_utf8.specs.Utf8.{Subsequence, subsequences, bytes}
 
 -- the white subsequences at the start
 unfoldable pub startWhite : List Subsequence → List Subsequence

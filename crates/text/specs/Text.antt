@@ -6,7 +6,7 @@ use mathlib.Core.Bool.{Bool, true, false, cond, not, _&&_}
 use mathlib.Core.List.{List, [], _∷_}
 use Rattle.laws.specs.Walk.{each}
 use Rattle.text.specs.WhiteSpace.{codePoint, isWhiteSpace}
-use Rattle.utf8.specs.Utf8.{Subsequence, scalar, illFormed, subsequences, bytes, lossy}
+use Rattle.text_utf8.specs.Utf8.{Subsequence, scalar, illFormed, subsequences, bytes, lossy}
 
 -- the bytes before the first zero byte
 unfoldable pub beforeZero : List ℕ → List ℕ

@@ -2,7 +2,7 @@
 use Prim.Native.Nat.{ℕ, _+_, _*_, _%_}
 use mathlib.Core.Bool.{Bool, false, _||_}
 use mathlib.Core.List.{List, [], _∷_}
-use Rattle.utf8.specs.Table.{Range, to, within}
+use Rattle.text_utf8.specs.Table.{Range, to, within}
 
 -- the Unicode Standard, table 3-6, UTF-8 Bit Distribution: the code point that the low bits of one to four bytes make; else 0
 unfoldable pub codePoint : List ℕ → ℕ

@@ -1,13 +1,13 @@
 // The length of a text.
 use crate::part::cut_at_zero;
 use crate::part::trimmed;
-use utf8::Utf8Step;
-use utf8::step_at;
+use text_utf8::Utf8Step;
+use text_utf8::step_at;
 ghost use mathlib.Core.Path.{_≡_};
 ghost use Prim.Native.Nat.{_+_, _^_, _≤_, _<_, min};
 ghost use lib.ListN.{length};
 ghost use Rattle.text.specs.Text.{clean};
-ghost use Rattle.utf8.specs.Utf8.{lossy};
+ghost use Rattle.text_utf8.specs.Utf8.{lossy};
 
 // The sum, or 2 ^ 62 where it is larger.
 fn add_capped(n: usize, more: usize) -> usize

@@ -1,14 +1,14 @@
 // The part of a payload that its text keeps.
 use crate::white_space::is_white_part;
-use utf8::Utf8Step;
-use utf8::step_at;
+use text_utf8::Utf8Step;
+use text_utf8::step_at;
 ghost use mathlib.Core.Path.{_≡_};
 ghost use Prim.Native.Nat.{_≤_};
 ghost use lib.ListN.{length};
 ghost use Rattle.text.specs.Place.{textEnd, trimmedAt};
 ghost use Rattle.text.specs.Text.{beforeZero, trimStart, trim};
-ghost use Rattle.utf8.specs.Step.{subsequencesFrom};
-ghost use Rattle.utf8.specs.Utf8.{subsequences};
+ghost use Rattle.text_utf8.specs.Step.{subsequencesFrom};
+ghost use Rattle.text_utf8.specs.Utf8.{subsequences};
 
 // The place of the first zero byte, or the end.
 fn zero_place(s: &[u8]) -> usize

@@ -1,8 +1,8 @@
 // A text put on the sheet, a record of kind 11 for each byte.
 use crate::part::cut_at_zero;
 use crate::part::trimmed;
-use utf8::Utf8Step;
-use utf8::step_at;
+use text_utf8::Utf8Step;
+use text_utf8::step_at;
 ghost use mathlib.Core.Path.{_≡_};
 ghost use mathlib.Core.List.{[], _∷_};
 ghost use Prim.Native.Nat.{_+_, _^_, _<_};
@@ -10,7 +10,7 @@ ghost use lib.ListN.{length};
 ghost use Rattle.laws.specs.Put.{Put};
 ghost use Rattle.text.specs.Text.{clean};
 ghost use Rattle.text.specs.TextRecords.{textRecords};
-ghost use Rattle.utf8.specs.Utf8.{lossy};
+ghost use Rattle.text_utf8.specs.Utf8.{lossy};
 
 // U+FFFD as text records; the place past them.
 fn put_replacement(d: &mut [u8], at: usize) -> usize

@@ -23,15 +23,15 @@ use Rattle.refusal.specs.Outcome.{Outcome, gives, refuses, andThen}
 use Rattle.chunk.specs.Chunk.{itemsFrom}
 use Rattle.form.specs.Find.{firstOf}
 use Rattle.form.specs.Names.{body}
-use Rattle.form_sheet.specs.FormVoice.{formVoice, Readable}
+use Rattle.sheet_read.specs.FormVoice.{formVoice, Readable}
 use Rattle.sheet.specs.Flat.{flat}
 use Rattle.sheet.specs.Read.{bodyOf}
 use Rattle.sheet.specs.Voice.{isStereo}
 use Rattle.sheet.specs.Voice as sheet
-use Rattle.sides.specs.Sides.{Sides, bodySides}
-use Rattle.sides.specs.Answers.{Room, leftAfter, rightAfter}
-use Rattle.sides.specs.Answers as side
-use Rattle.sides.specs.declared.lengths.SideLengths.the-variants as count
+use Rattle.body_read.specs.Sides.{Sides, bodySides}
+use Rattle.body_read.specs.Answers.{Room, leftAfter, rightAfter}
+use Rattle.body_read.specs.Answers as side
+use Rattle.body_read.specs.declared.lengths.SideLengths.the-variants as count
 use Rattle.voice_read.specs.Parsed.{lengthsOf, neededBy, fits, answerOf, after}
 use Rattle.voice_read.specs.ReadVoice.{Reading, withSides, formOf, readVoice}
 use Rattle.voice_read.specs.declared.chunks.Lengths.{Lengths}

@@ -26,8 +26,8 @@ use Rattle.form.specs.Find.{firstOf}
 use Rattle.form.specs.Names.{form, formType, vhdr, body}
 use Rattle.sheet.specs.Read.{bodyOf}
 use Rattle.sheet.specs.Voice.{Voice, isStereo}
-use Rattle.sides.specs.Sides.{Sides, bodySides}
-use Rattle.form_sheet.specs.FormVoice.{formVoice, isThere, Readable}
+use Rattle.body_read.specs.Sides.{Sides, bodySides}
+use Rattle.sheet_read.specs.FormVoice.{formVoice, isThere, Readable}
 use Rattle.voice_read.specs.ReadVoice.{Reading, withChunk, withSides, readItems, formOf, headRefusal, readVoice}
 
 -- ---- the chunks of a FORM

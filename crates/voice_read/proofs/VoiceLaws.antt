@@ -24,8 +24,8 @@ use Rattle.form.specs.Names.{vhdr, chan}
 use Rattle.form.specs.declared.place.Place.the-variants.{At, Absent}
 use Rattle.sheet.specs.Read.{knownChannel}
 use Rattle.sheet.specs.Voice.{isStereo}
-use Rattle.form_sheet.specs.FormVoice.{formVoice, Readable}
-use Rattle.form_sheet.proofs.PlaceLaws.{least-of, least-size}
+use Rattle.sheet_read.specs.FormVoice.{formVoice, Readable}
+use Rattle.sheet_read.proofs.PlaceLaws.{least-of, least-size}
 
 -- ---- the header
 

@@ -14,8 +14,8 @@ use Rattle.form.specs.Names.{form, formType, vhdr, body}
 use Rattle.form.specs.FirstBad.{firstBad}
 use Rattle.form.specs.Find.{firstOf}
 use Rattle.sheet.specs.Voice.{Voice, isStereo}
-use Rattle.sides.specs.Sides.{Sides, bodySides}
-use Rattle.form_sheet.specs.FormVoice.{formVoice}
+use Rattle.body_read.specs.Sides.{Sides, bodySides}
+use Rattle.sheet_read.specs.FormVoice.{formVoice}
 
 -- what a file gives: its voice and the samples of both sides
 pub record Reading : Type 0 where

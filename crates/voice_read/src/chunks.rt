@@ -1,14 +1,14 @@
 // What a FORM's chunks give: the lengths, and the three outputs.
+use body_read::SideLengths;
+use body_read::decode_sides;
+use body_read::side_lengths;
 use field::read32;
 use form::Place;
 use form::find;
 use form::first_bad;
-use form_sheet::put_sheet;
-use form_sheet::sheet_length;
 use header::VoiceHeader;
-use sides::SideLengths;
-use sides::decode_sides;
-use sides::side_lengths;
+use sheet_read::put_sheet;
+use sheet_read::sheet_length;
 ghost use mathlib.Core.Path.{_≡_};
 ghost use mathlib.Core.Bool.{not};
 ghost use Prim.Native.Nat.{_^_, _≤_, _<_};
@@ -17,13 +17,13 @@ ghost use Rattle.chunk.specs.Chunk.{itemsFrom};
 ghost use Rattle.form.specs.FirstBad.{firstBad};
 ghost use Rattle.form.specs.Find.{firstOf};
 ghost use Rattle.form.specs.Names.{body};
-ghost use Rattle.form_sheet.specs.FormVoice.{formVoice, isThere, Readable};
+ghost use Rattle.sheet_read.specs.FormVoice.{formVoice, isThere, Readable};
 ghost use Rattle.laws.specs.Buffer.{written};
 ghost use Rattle.sheet.specs.Flat.{flat};
 ghost use Rattle.sheet.specs.Read.{bodyOf};
 ghost use Rattle.sheet.specs.Voice.{isStereo};
-ghost use Rattle.sides.specs.Sides.{bodySides};
-ghost use Rattle.sides.specs.Answers.{Room, leftAfter, rightAfter};
+ghost use Rattle.body_read.specs.Sides.{bodySides};
+ghost use Rattle.body_read.specs.Answers.{Room, leftAfter, rightAfter};
 ghost use Rattle.voice_read.specs.Parsed.{neededBy};
 ghost use Rattle.voice_read.specs.ReadVoice.{withSides, readItems};
 

@@ -8,7 +8,7 @@ use mathlib.Core.Path.{_≡_, refl, sym, ap, _∙_}
 use native.Mathlib.Nat.{zero-add}
 use native.Mathlib.Omega.{arith}
 use Rattle.field.specs.BigEndian.{Bytes}
-use Rattle.grammar.proofs.Theorem.{flat-read}
+use Rattle.sheet_grammar.proofs.Theorem.{flat-read}
 use Rattle.header.specs.Compression.{knownCompression}
 use Rattle.header.specs.declared.compression.Compression.{Compression}
 use Rattle.header.specs.declared.compression.KnownCompression.the-variants.{Known}
@@ -20,7 +20,7 @@ use Rattle.sheet.specs.Judge.{judged}
 use Rattle.sheet.specs.Read.{readSheet}
 use Rattle.sheet.specs.declared.judge.Judged.{Judged}
 use Rattle.sheet.specs.declared.judge.Judged.the-variants.{Sound, Refused}
-use Rattle.sides.specs.Sides.{Sides}
+use Rattle.body_read.specs.Sides.{Sides}
 use Rattle.voice_write.specs.Answers.{lengthOf, Room}
 use Rattle.voice_write.specs.WriteVoice.{contents, fileOf, writeVoice, writeSheet}
 use Rattle.voice_write.proofs.WriteLaws.{accepted, accepted-as, file-length, left-bound, flat-within, right-within}

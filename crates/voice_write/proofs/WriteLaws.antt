@@ -18,8 +18,8 @@ use mathlib.Core.Path.{_≡_, refl, sym, _∙_}
 use native.Mathlib.Omega.{arith}
 use Rattle.chunk.proofs.WriteLaws.{chunk-length}
 use Rattle.chunk.specs.ChunkBytes.{chunkBytes}
-use Rattle.encode_body.proofs.BodyBytesLaws.{half-bound, body-length}
-use Rattle.encode_body.specs.BodyBytes.{bodyBytes}
+use Rattle.body_write.proofs.BodyBytesLaws.{half-bound, body-length}
+use Rattle.body_write.specs.BodyBytes.{bodyBytes}
 use Rattle.field.proofs.BigEndianLaws.{bytes-length}
 use Rattle.field.specs.BigEndian.{bigEndianBytes}
 use Rattle.form.specs.Names.{form, formType, body}
@@ -34,10 +34,10 @@ use Rattle.refusal.specs.Numbers.{octaveTotal, sampleLengths, formLength}
 use Rattle.refusal.specs.Outcome.{gives, refuses}
 use Rattle.sheet.specs.Flat.{flat}
 use Rattle.sheet.specs.Voice.{Voice, isStereo}
-use Rattle.sheet_form.proofs.BoundLaws.{flat-bound}
-use Rattle.sheet_form.specs.VoiceChunks.{voiceChunks}
-use Rattle.sides.proofs.SideLaws.{suit-parts}
-use Rattle.sides.specs.Sides.{Sides, lengthsSuit}
+use Rattle.sheet_write.proofs.BoundLaws.{flat-bound}
+use Rattle.sheet_write.specs.VoiceChunks.{voiceChunks}
+use Rattle.body_read.proofs.SideLaws.{suit-parts}
+use Rattle.body_read.specs.Sides.{Sides, lengthsSuit}
 use Rattle.voice_write.specs.WriteVoice.{contents, fileOf, held32, writeVoice}
 
 -- both sides

@@ -12,12 +12,12 @@ use Rattle.header.specs.Octaves.{totalSamples}
 use Rattle.header.specs.declared.compression.Compression.{Compression}
 use Rattle.chunk.specs.ChunkBytes.{chunkBytes}
 use Rattle.form.specs.Names.{form, formType, body}
-use Rattle.encode_body.specs.BodyBytes.{bodyBytes}
+use Rattle.body_write.specs.BodyBytes.{bodyBytes}
 use Rattle.sheet.specs.Judge.{judged, ifSound}
 use Rattle.sheet.specs.Read.{readSheet}
 use Rattle.sheet.specs.Voice.{Voice, isStereo}
-use Rattle.sheet_form.specs.VoiceChunks.{voiceChunks}
-use Rattle.sides.specs.Sides.{Sides, lengthsSuit}
+use Rattle.sheet_write.specs.VoiceChunks.{voiceChunks}
+use Rattle.body_read.specs.Sides.{Sides, lengthsSuit}
 
 -- what the FORM holds: its type, the chunks of the voice, and BODY last
 unfoldable pub contents : Voice → Compression → Sides → List ℕ

@@ -1,13 +1,13 @@
 // The file's bytes.
 use crate::measure::file_length;
-use encode_body::put_body;
+use body_write::put_body;
 use field::put32;
 use header::Compression;
 use header::KnownCompression;
-use layout::sheet_header;
-use layout::sheet_stereo;
 use refusal::Output;
-use sheet_form::put_chunks;
+use sheet_layout::sheet_header;
+use sheet_layout::sheet_stereo;
+use sheet_write::put_chunks;
 ghost use mathlib.Core.Path.{_≡_};
 ghost use lib.ListN.{length};
 ghost use Rattle.laws.specs.Buffer.{written};
@@ -17,7 +17,7 @@ ghost use Rattle.refusal.specs.Outcome.{answer, bufferAfter};
 ghost use Rattle.sheet.specs.Judge.{judged};
 ghost use Rattle.sheet.specs.Read.{readSheet};
 ghost use Rattle.sheet.specs.declared.judge.Judged.the-variants.{Sound};
-ghost use Rattle.sides.specs.Sides.{Sides};
+ghost use Rattle.body_read.specs.Sides.{Sides};
 ghost use Rattle.voice_write.specs.Answers.{Room};
 ghost use Rattle.voice_write.specs.WriteVoice.{contents, fileOf, writeSheet};
 

@@ -1,16 +1,16 @@
 // How long the file is.
-use encode_body::body_length;
+use body_read::is_suited;
+use body_write::body_length;
 use header::Compression;
 use header::KnownCompression;
 use header::Total;
 use header::VoiceHeader;
-use layout::sheet_header;
-use layout::sheet_stereo;
 use refusal::Output;
 use sheet::Judged;
 use sheet::judge_sheet;
-use sheet_form::chunks_length;
-use sides::is_suited;
+use sheet_layout::sheet_header;
+use sheet_layout::sheet_stereo;
+use sheet_write::chunks_length;
 ghost use mathlib.Core.Path.{_≡_};
 ghost use mathlib.Core.Bool.{true};
 ghost use lib.ListN.{length};
@@ -20,7 +20,7 @@ ghost use Rattle.sheet.specs.Judge.{judged};
 ghost use Rattle.sheet.specs.Read.{readSheet};
 ghost use Rattle.sheet.specs.Voice.{isStereo};
 ghost use Rattle.sheet.specs.declared.judge.Judged.the-variants.{Sound};
-ghost use Rattle.sides.specs.Sides.{Sides, lengthsSuit};
+ghost use Rattle.body_read.specs.Sides.{Sides, lengthsSuit};
 ghost use Rattle.voice_write.specs.Answers.{lengthOf};
 ghost use Rattle.voice_write.specs.WriteVoice.{contents, held32, writeVoice, writeSheet};
 

@@ -5,9 +5,9 @@ use Prim.Native.Nat.{_/_}
 use borrow.Author.Needs.{needs}
 use lib.ListN.{length}
 use Rattle.sheet.specs.Read.{readSheet}
-use Rattle.fill_rules.specs.declared.«note_rules».Request.{Request}
-use Rattle.block.proofs.FramesLaws.{frames-length}
-use Rattle.next_block.specs.Frame.{frame}
+use Rattle.note_rules.specs.declared.state.Request.{Request}
+use Rattle.note_stage.proofs.FramesLaws.{frames-length}
+use Rattle.note_block.specs.Frame.{frame}
 use Rattle.note.specs.Note.{advanceOf, requestOf}
 use Rattle.note.specs.declared.Answer.the-variants.{Sounding}
 use Rattle.note.specs.Fill.{answerOf, noteAfter, blockAfter}

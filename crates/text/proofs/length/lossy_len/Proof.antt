@@ -9,9 +9,9 @@ use native.Mathlib.Omega.{arith}
 use Rattle.text.proofs.LengthLaws.{capped-step, lossy-end}
 use Rattle.text.proofs.length.lossy_len.Statement.{statement}
 use Rattle.text.proofs.length.lossy_len.Tie as tie
-use Rattle.utf8.proofs.SpanLaws.{Says, step-says, span-length}
-use Rattle.utf8.specs.Utf8.{lossy}
-use Rattle.utf8.specs.declared.step.Utf8Step.the-variants.{Scalar, IllFormed}
+use Rattle.text_utf8.proofs.SpanLaws.{Says, step-says, span-length}
+use Rattle.text_utf8.specs.Utf8.{lossy}
+use Rattle.text_utf8.specs.declared.step.Utf8Step.the-variants.{Scalar, IllFormed}
 
 abbrev Inv-loop : tie.InvT-loop
 Inv-loop s n₀ at₀ n at = (min (n + length (lossy (drop at s))) (2 ^ 62) ≡ min (length (lossy s)) (2 ^ 62)) × (n ≤ 2 ^ 62)

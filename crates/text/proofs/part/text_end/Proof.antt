@@ -11,9 +11,9 @@ use Rattle.text.proofs.PlaceLaws.{end-not-white, end-white}
 use Rattle.text.proofs.part.text_end.Statement.{statement}
 use Rattle.text.proofs.part.text_end.Tie as tie
 use Rattle.text.specs.Place.{textEnd}
-use Rattle.utf8.proofs.SpanLaws.{Says, step-says}
-use Rattle.utf8.specs.Step.{subsequencesFrom}
-use Rattle.utf8.specs.declared.step.Utf8Step.the-variants.{Scalar, IllFormed}
+use Rattle.text_utf8.proofs.SpanLaws.{Says, step-says}
+use Rattle.text_utf8.specs.Step.{subsequencesFrom}
+use Rattle.text_utf8.specs.declared.step.Utf8Step.the-variants.{Scalar, IllFormed}
 
 abbrev Inv-loop : tie.InvT-loop
 Inv-loop s from at₀ end₀ at end = (textEnd end at (subsequencesFrom s at) ≡ textEnd from from (subsequencesFrom s from)) × (from ≤ end) × (end ≤ at) × (at ≤ length s)

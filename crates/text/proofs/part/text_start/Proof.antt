@@ -11,10 +11,10 @@ use Rattle.text.proofs.PlaceLaws.{start-here, start-later, start-end}
 use Rattle.text.proofs.part.text_start.Statement.{statement}
 use Rattle.text.proofs.part.text_start.Tie as tie
 use Rattle.text.specs.Text.{trimStart}
-use Rattle.utf8.proofs.SpanLaws.{Says, step-says}
-use Rattle.utf8.specs.Step.{subsequencesFrom}
-use Rattle.utf8.specs.Utf8.{subsequences}
-use Rattle.utf8.specs.declared.step.Utf8Step.the-variants.{Scalar}
+use Rattle.text_utf8.proofs.SpanLaws.{Says, step-says}
+use Rattle.text_utf8.specs.Step.{subsequencesFrom}
+use Rattle.text_utf8.specs.Utf8.{subsequences}
+use Rattle.text_utf8.specs.declared.step.Utf8Step.the-variants.{Scalar}
 
 abbrev Inv-loop : tie.InvT-loop
 Inv-loop s at₀ at = (trimStart (subsequencesFrom s at) ≡ trimStart (subsequences s)) × (at ≤ length s)

@@ -13,9 +13,9 @@ use Rattle.text.proofs.RecordLaws.{records-tagged, records-length, text
 use Rattle.text.proofs.write.put_lossy.Statement.{statement}
 use Rattle.text.proofs.write.put_lossy.Tie as tie
 use Rattle.text.specs.TextRecords.{textRecords}
-use Rattle.utf8.proofs.SpanLaws.{Says, step-says}
-use Rattle.utf8.specs.Utf8.{lossy}
-use Rattle.utf8.specs.declared.step.Utf8Step.the-variants.{Scalar, IllFormed}
+use Rattle.text_utf8.proofs.SpanLaws.{Says, step-says}
+use Rattle.text_utf8.specs.Utf8.{lossy}
+use Rattle.text_utf8.specs.declared.step.Utf8Step.the-variants.{Scalar, IllFormed}
 
 abbrev Inv-loop : tie.InvT-loop
 Inv-loop s d₀ at i₀ o₀ d i o = Underway d₀ at (textRecords (lossy s)) d o (textRecords (lossy (drop i s))) × (length d ≡ length d₀)

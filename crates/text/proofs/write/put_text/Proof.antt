@@ -7,7 +7,7 @@ use Rattle.text.proofs.TrimLaws.{clean-is}
 use Rattle.text.proofs.write.put_text.Statement.{statement}
 use Rattle.text.proofs.write.put_text.Tie as tie
 use Rattle.text.specs.Text.{clean}
-use Rattle.utf8.specs.Utf8.{lossy}
+use Rattle.text_utf8.specs.Utf8.{lossy}
 
 -- the part with its ill-formed parts replaced is the text
 text-is : (c : tie.After-trimmed) → lossy (now (c .trimmed .result)) ≡ clean (now (c .before .before .before .before .args .payload))

@@ -6,11 +6,11 @@ use mathlib.Core.Path.{_≡_, sym, _∙_}
 use Rattle.chunk.specs.Chunk.{itemsFrom}
 use Rattle.form.specs.Find.{firstOf}
 use Rattle.form.specs.Names.{body}
-use Rattle.form_sheet.specs.FormVoice.{formVoice}
+use Rattle.sheet_read.specs.FormVoice.{formVoice}
 use Rattle.sheet.specs.Read.{bodyOf}
 use Rattle.sheet.specs.Voice.{isStereo}
-use Rattle.sides.specs.Answers.{lengthsOf}
-use Rattle.sides.specs.Sides.{bodySides}
+use Rattle.body_read.specs.Answers.{lengthsOf}
+use Rattle.body_read.specs.Sides.{bodySides}
 use Rattle.voice_read.proofs.AnswerLaws.{needed-refused, needed-gives}
 use Rattle.voice_read.proofs.chunks.body_lengths.Statement.{statement}
 use Rattle.voice_read.proofs.chunks.body_lengths.Tie as tie

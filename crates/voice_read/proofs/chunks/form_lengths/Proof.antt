@@ -9,7 +9,7 @@ use Rattle.chunk.specs.Chunk.{itemsFrom}
 use Rattle.form.specs.Find.{firstOf}
 use Rattle.form.specs.FirstBad.{firstBad}
 use Rattle.form.specs.Names.{vhdr}
-use Rattle.form_sheet.specs.FormVoice.{isThere}
+use Rattle.sheet_read.specs.FormVoice.{isThere}
 use Rattle.voice_read.specs.Parsed.{neededBy}
 use Rattle.voice_read.specs.declared.chunks.Parsed.the-variants.{Refused}
 use Rattle.voice_read.proofs.ReadLaws.{items-bad, items-headless, items-bodiless, items-whole}

@@ -3,7 +3,7 @@
 use borrow.Author.Needs.{needs}
 use mathlib.Core.Bool.{not}
 use mathlib.Core.Path.{ap}
-use Rattle.form_sheet.specs.FormVoice.{isThere}
+use Rattle.sheet_read.specs.FormVoice.{isThere}
 use Rattle.voice_read.proofs.chunks.is_missing.Statement.{statement}
 use Rattle.voice_read.proofs.chunks.is_missing.Tie as tie
 

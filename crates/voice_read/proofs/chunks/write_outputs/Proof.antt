@@ -7,10 +7,10 @@ use Rattle.laws.proofs.PutLaws.{put-front}
 use Rattle.chunk.specs.Chunk.{itemsFrom}
 use Rattle.form.specs.Find.{firstOf}
 use Rattle.form.specs.Names.{body}
-use Rattle.form_sheet.specs.FormVoice.{formVoice}
+use Rattle.sheet_read.specs.FormVoice.{formVoice}
 use Rattle.sheet.specs.Read.{bodyOf}
 use Rattle.sheet.specs.Voice.{isStereo}
-use Rattle.sides.specs.Sides.{bodySides}
+use Rattle.body_read.specs.Sides.{bodySides}
 use Rattle.voice_read.proofs.chunks.write_outputs.Statement.{statement}
 use Rattle.voice_read.proofs.chunks.write_outputs.Tie as tie
 

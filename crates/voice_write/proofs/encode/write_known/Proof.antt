@@ -6,7 +6,7 @@ use denote.Ref.{now}
 use lib.ListN.{length}
 use native.Mathlib.Omega.{arith}
 use Rattle.laws.proofs.PutLaws.{put-front}
-use Rattle.encode_body.specs.BodyBytes.{bodyBytes}
+use Rattle.body_write.specs.BodyBytes.{bodyBytes}
 use Rattle.refusal.proofs.OutcomeLaws.{outcome-fits}
 use Rattle.sheet.specs.Read.{readSheet}
 use Rattle.voice_write.specs.WriteVoice.{contents, fileOf, writeSheet}

@@ -5,8 +5,8 @@ use Prim.Native.Nat.{_+_, _%_}
 use denote.Ref.{now}
 use lib.ListN.{length}
 use native.Mathlib.Omega.{arith}
-use Rattle.encode_body.specs.BodyBytes.{bodyBytes}
-use Rattle.layout.proofs.SoundLaws.{sound-flat}
+use Rattle.body_write.specs.BodyBytes.{bodyBytes}
+use Rattle.sheet_layout.proofs.SoundLaws.{sound-flat}
 use Rattle.refusal.specs.declared.Output.the-variants.{Length}
 use Rattle.sheet.specs.Read.{readSheet}
 use Rattle.voice_write.specs.Answers.{lengthOf}

@@ -1,0 +1,64 @@
+-- `body_read::decode::decode_stream` meets its contract: in each arm the match says which compression it is, so what the stream has.
+-- Assumes nothing.
+use mathlib.Core.Path.{sym, _∙_}
+use Prim.Native.Nat.{_≤_}
+use lib.ListN.{length}
+use lib.Seq.{length-take-le}
+use Rattle.body_read.proofs.ChannelLaws.{raw-written}
+use borrow.Author.Needs.{needs}
+use Rattle.body_read.proofs.decode.decode_stream.Statement.{statement}
+use Rattle.body_read.proofs.decode.decode_stream.Tie as tie
+
+-- a raw stream has n bytes
+raw-has : (c : tie.After-decode-raw-arg) → c .before .before .before .before .args .n ≤ length (c .before .before .before .before .args .bytes .now)
+raw-has c = rw (c .before .enum-told .given .1) at (c .before .before .before .before .pre .0)
+
+enum-told : tie.Need-enum-told
+enum-told c = search needs
+
+slice-aggregate-decode-raw : tie.Need-slice-aggregate-decode-raw
+slice-aggregate-decode-raw c =
+    let a = c .before .before .before .before .args in
+    sym (length-take-le (a .n) (a .bytes .now) (raw-has c))
+
+decode-raw-requires : tie.Need-decode-raw-requires
+decode-raw-requires c κs = search needs
+
+enum-told-2 : tie.Need-enum-told-2
+enum-told-2 c = search needs
+
+decode-first-requires : tie.Need-decode-first-requires
+decode-first-requires c κs =
+    let p = c .before .before .before .before .pre in
+    let has = rw (c .before .enum-told2 .given .1) at (p .0) in
+    (has .0, has .1, p .1)
+
+same-length : tie.Need-same-length
+same-length c = search needs
+
+returns : tie.Need-returns
+returns c =
+    let e = c .before .before .before in
+    let s = e .before .before .before .before in
+    rw (e .before .enum-told .given .1) (c .before .decode-raw .ensures .1 ∙ raw-written (s .args .n) (s .args .bytes .now) (s .args .out .now) (raw-has e) (s .pre .1))
+
+same-length-2 : tie.Need-same-length-2
+same-length-2 c = search needs
+
+returns-2 : tie.Need-returns-2
+returns-2 c =
+    rw (c .before .before .before .enum-told2 .given .1) (c .before .decode-first .ensures)
+
+pub decode-stream-spec : {M : Type 1} → statement M
+decode-stream-spec =
+    tie.close
+    (tie.spec
+    enum-told
+    slice-aggregate-decode-raw
+    decode-raw-requires
+    enum-told-2
+    decode-first-requires
+    same-length
+    returns
+    same-length-2
+    returns-2)

@@ -1,0 +1,45 @@
+-- A scaled number is no larger than it was, and a level on the way lies between the two.
+-- Assumes nothing.
+use mathlib.Core.Path.{_≡_}
+use Prim.Native.Nat.{ℕ, _-_, _*_, _/_, _≤_}
+use native.Mathlib.Nat.{div-le-of-le-mul, mul-le-mul-left, mul-le-mul-right}
+use native.Mathlib.Omega.{arith}
+use lib.IntN.{ℤ, pos, _-ℤ_, _*ℤ_}
+use mir.Syntax.{Width, w32}
+use mir.Val.{SFits}
+use Rattle.laws.proofs.Signed.{up, dn, zarith, known, apart, sum, diff, times, quot}
+use Rattle.envelope.specs.Level.{scaledBy, onTheWay}
+
+part : (a n d : ℕ) → n ≤ d → a * n / d ≤ a
+part a n d h = div-le-of-le-mul d (omega (arith, mul-le-mul-left a h))
+
+-- a factor that is at most the divisor leaves neither part larger
+pub record Scaled (x : ℤ) (n d : ℕ) : Type 0 where
+  pub above : up (scaledBy x n d) ≤ up x
+  pub below : dn (scaledBy x n d) ≤ dn x
+  pub one-is-zero : up (scaledBy x n d) - dn (scaledBy x n d) ≡ up (scaledBy x n d)
+
+pub scaled-parts : (x : ℤ) (n d : ℕ) → n ≤ d → Scaled x n d
+unfolding scaledBy
+scaled-parts x n d h =
+    let t = times x n in
+    let q = quot (x *ℤ pos n) d in
+    record {
+      above = rw (q .above, t .above) (part (up x) n d h);
+      below = rw (q .below, t .below) (part (dn x) n d h);
+      one-is-zero = apart (scaledBy x n d);
+    }
+
+-- so, at every width, a number that fits still fits when it is scaled
+pub scaled-fits : {w : Width} (x : ℤ) (n d : ℕ) → n ≤ d → SFits w x → SFits w (scaledBy x n d)
+scaled-fits x n d h f = omega (zarith, known f, scaled-parts x n d h)
+
+-- a product of a bounded number
+pub bounded : (a n b : ℕ) → a ≤ b → a * n ≤ b * n
+bounded a n b h = mul-le-mul-right n h
+
+-- a level on the way is between the two, so it is a 32-bit one
+pub way-fits : (level dest : ℤ) (into d : ℕ) → SFits w32 level → SFits w32 dest → into ≤ d → SFits w32 (onTheWay level dest into d)
+unfolding onTheWay
+way-fits level dest into d f g h =
+    omega (zarith, known f, known g, diff dest level, scaled-parts (dest -ℤ level) into d h, sum level (scaledBy (dest -ℤ level) into d))

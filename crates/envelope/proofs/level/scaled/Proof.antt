@@ -1,0 +1,38 @@
+-- The result is no larger than x, so it fits again.
+use mathlib.Core.Path.{_≡_, _∙_}
+use Prim.Native.Nat.{_^_}
+use lib.IntN.{natAbs}
+use mir.Syntax.{w32, w64}
+use mir.Val.{SFits, toZ, ofZ}
+use mir.Facts.{toZ-ofZ}
+use Rattle.laws.proofs.Signed.{zarith, known, abs-parts, widens, widened, back}
+use Rattle.envelope.specs.Level.{scaledBy}
+use Rattle.envelope.proofs.ScaleLaws.{scaled-fits, bounded}
+use Rattle.envelope.proofs.level.scaled.Statement.{statement}
+use Rattle.envelope.proofs.level.scaled.Tie as tie
+
+x-is : (s : tie.Start) → toZ w64 (ofZ w64 (toZ w32 (ofZ w32 (s .args .x)))) ≡ s .args .x
+x-is s = widened w32 w64 tt (s .fits .x)
+
+fits : (s : tie.Start) → SFits w32 (scaledBy (s .args .x) (s .args .n) (s .args .d))
+fits s = scaled-fits (s .args .x) (s .args .n) (s .args .d) (s .pre .0) (s .fits .x)
+
+result-is : (c : tie.After-scaled-wide) → toZ w64 (ofZ w64 (c .scaled-wide .result)) ≡ scaledBy (c .before .args .x) (c .before .args .n) (c .before .args .d)
+result-is c = back w64 (c .scaled-wide .ok) ∙ rw (x-is (c .before)) at (c .scaled-wide .ensures)
+
+cast-scaled-wide : tie.Need-cast-scaled-wide
+cast-scaled-wide c = widens w32 w64 tt (c .fits .x)
+
+scaled-wide-requires : tie.Need-scaled-wide-requires
+scaled-wide-requires c κs =
+    rw (x-is c)
+    (c .pre .1, omega (zarith, bounded (natAbs (c .args .x)) (c .args .n) (2 ^ 31) (omega (zarith, known (c .fits .x), abs-parts (c .args .x)))))
+
+cast-result : tie.Need-cast-result
+cast-result c = rw (result-is c) (fits (c .before))
+
+returns : tie.Need-returns
+returns c = rw (result-is c) (toZ-ofZ (fits (c .before)))
+
+pub scaled-spec : {M : Type 1} → statement M
+scaled-spec = tie.close (tie.spec cast-scaled-wide scaled-wide-requires cast-result returns)

@@ -1,2 +1,0 @@
--- The meaning of levels.
-pub mod Level

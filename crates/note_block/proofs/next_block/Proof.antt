@@ -1,0 +1,127 @@
+-- `note_block::next_block` meets its contract: the frames up to 4,294,967,295 are played, and the rest is silence.
+-- Assumes nothing.
+use Prim.Native.Nat.{ℕ, _%_, _≤_, _<_, _^_}
+use mathlib.Core.Path.{_≡_}
+use native.Mathlib.Omega.{arith}
+use borrow.Author.Needs.{needs}
+use lib.ListN.{length, getD}
+use mir.Syntax.{w8}
+use mir.Val.{Fits}
+use Rattle.sheet.specs.Read.{readSheet}
+use Rattle.body_read.specs.Sides.{Sides}
+use Rattle.note_block.proofs.SheetLaws.{places-are}
+use Rattle.note_block.proofs.AcceptedLaws.{even-places}
+use Rattle.note_block.proofs.BeginLaws.{path-asks, gains-ask, block-ready}
+use Rattle.note_block.proofs.FrameLaws.{frame-last}
+use Rattle.note_block.proofs.WholeLaws.{whole-count, whole-buffer}
+use Rattle.note_block.proofs.next_block.Statement.{statement}
+use Rattle.note_block.proofs.next_block.Tie as tie
+
+-- at the function's entry
+module _ (c : tie.After-shared-slice-known) where
+  abbrev start : tie.Start
+  start = c .before
+
+  bytes : (i : ℕ) → Fits w8 (getD (start .args .sheet .now) i 0)
+  bytes = c .shared-slice-known .given
+
+  places : let l = start .args .l in (l .attacks ≤ l .releases) × (l .releases ≤ l .sequence) × (l .sequence ≤ l .fade) × (l .fade ≤ length (start .args .sheet .now))
+  places = places-are (start .args .sheet .now) bytes (start .pre .0) (start .args .l) (start .pre .1)
+
+  small : length (start .args .left .now) < 2 ^ 63
+  small = search needs
+
+sub-segments : tie.Need-sub-segments
+sub-segments c = places c .2
+
+part-segments-start : tie.Need-part-segments-start
+part-segments-start c = let p = places c in omega arith
+
+part-segments-end : tie.Need-part-segments-end
+part-segments-end c = let p = places c in omega arith
+
+sheet-sequence-requires : tie.Need-sheet-sequence-requires
+sheet-sequence-requires c κs = search needs
+
+is-there-requires : tie.Need-is-there-requires
+is-there-requires c κs = search needs
+
+sheet-header-requires : tie.Need-sheet-header-requires
+sheet-header-requires c κs = search needs
+
+path-of-requires : tie.Need-path-of-requires
+path-of-requires c κs =
+    let k = c .before .before .before .before in
+    let s = start k in
+    path-asks (s .args .r) (s .args .sheet .now) (s .args .l) (s .args .left .now) (s .args .right .now) (bytes k) (s .pre .0) (s .pre .1) (s .pre .3) (small k) _ (c .sheet-header .ensures)
+
+gains-of-requires : tie.Need-gains-of-requires
+gains-of-requires c κs =
+    let k = c .before .before .before .before .before in
+    let s = start k in
+    let g = gains-ask (s .args .r) (s .args .sheet .now) (s .args .l) (s .args .left .now) (s .args .right .now) (bytes k) (s .pre .0) (s .pre .1) (s .pre .3) (small k) in
+    (s .pre .0, s .pre .1, g .0, g .1)
+
+cast-room : tie.Need-cast-room
+cast-room c = search needs
+
+sub-room : tie.Need-sub-room
+sub-room c = search needs
+
+least-requires : tie.Need-least-requires
+least-requires c κs = search needs
+
+play-stage-requires : tie.Need-play-stage-requires
+play-stage-requires c κs =
+    let p = c .before .before .before .before in
+    let k = p .before .before .before .before .before in
+    let s = start k in
+    let counted : s .args .r .frames ≤ 4294967295 = omega (arith, c .before .before .struct-known .given) in
+    block-ready (s .args .r) (s .args .sheet .now) (s .args .l) (s .args .left .now) (s .args .right .now) (bytes k) (s .pre .0) (s .pre .1) (s .pre .3) (small k)
+    _ (p .before .sheet-header .ensures) _ _ _ (p .before .before .before .sheet-sequence .ensures) (p .before .before .is-there .ensures) (p .path-of .ensures)
+    _ _ _ (c .before .before .before .gains-of .ensures) counted (c .before .least .ensures)
+
+mul-silence-from : tie.Need-mul-silence-from
+mul-silence-from c = search needs
+
+silence-from-requires : tie.Need-silence-from-requires
+silence-from-requires c κs = search needs
+
+same-length : tie.Need-same-length
+same-length c = search needs
+
+returns : tie.Need-returns
+returns c =
+    let p = c .before .before .before .before in
+    let n = p .before .before in
+    let k = n .before .before .before .before .before .before .before .before in
+    let s = start k in
+    let a = s .args in
+    let counted : a .r .frames ≤ 4294967295 = omega (arith, n .before .struct-known .given) in
+    let even : length (a .out .now) % 2 ≡ 0 = omega (arith, s .pre .2, even-places (readSheet (a .sheet .now)) (length (a .left .now)) (length (a .right .now)) (a .r) (s .pre .3)) in
+    let sides : Sides = record { left = a .left .now; right = a .right .now } in
+    let last = frame-last (readSheet (a .sheet .now)) sides (a .r .octave) (a .r .step) (a .r .rate) (a .r .key) in (
+      whole-count _ _ _ _ _ _ last counted even (n .least .ensures) (p .play-stage .ensures),
+      whole-buffer _ _ _ _ _ _ last counted even (n .least .ensures) (p .play-stage .ensures) _ (p .play-stage .kept .1 .1 .1 .1 .1 .1 .1 .1 .0) (c .before .silence-from .ensures),
+    )
+
+pub next-block-spec : {M : Type 1} → statement M
+next-block-spec =
+    tie.close
+    (tie.spec
+    sub-segments
+    part-segments-start
+    part-segments-end
+    sheet-sequence-requires
+    is-there-requires
+    sheet-header-requires
+    path-of-requires
+    gains-of-requires
+    cast-room
+    sub-room
+    least-requires
+    play-stage-requires
+    mul-silence-from
+    silence-from-requires
+    same-length
+    returns)

@@ -1,0 +1,47 @@
+-- `note_block::stages::attack_level` meets its contract: a cursor on the attack says the level at a time, which is at most 65,536.
+-- Assumes nothing.
+use borrow.Author.Needs.{needs}
+use Prim.Native.Nat.{_-_}
+use mathlib.Core.Path.{_≡_, ap, _∙_}
+use native.Mathlib.Omega.{arith}
+use lib.IntN.{pos}
+use mir.Facts.{toZ-pos}
+use mir.Syntax.{w32}
+use Rattle.laws.proofs.Signed.{zarith, back}
+use Rattle.sheet_layout.specs.Members.{pointsIn}
+use Rattle.note_envelope.specs.Cursor.{Follows}
+use Rattle.note_envelope.proofs.CursorLaws.{level-small}
+use Rattle.note_stage.specs.Frames.{msSince}
+use Rattle.note_block.specs.Frame.{startLevel}
+use Rattle.note_block.proofs.stages.attack_level.Statement.{statement}
+use Rattle.note_block.proofs.stages.attack_level.Tie as tie
+
+mul-ms : tie.Need-mul-ms
+mul-ms c = search needs
+
+div-ms : tie.Need-div-ms
+div-ms c = search needs
+
+start-level-requires : tie.Need-start-level-requires
+start-level-requires c κs = search needs
+
+cursor-at-requires : tie.Need-cursor-at-requires
+cursor-at-requires c κs = search needs
+
+-- the cursor stands at frame u's time
+followed : (c : tie.After-struct-known) →
+    let a = c .before .before .before .before .args in
+    Follows (a .attack .now) (startLevel (pointsIn (a .attack .now))) (msSince (a .rate) 0 (a .u)) (c .before .cursor-at .result)
+followed c =
+    let z : c .before .before .before .before .args .u - 0 ≡ c .before .before .before .before .args .u = omega arith in
+    rw z (rw (back w32 (c .before .before .start-level .ok), c .before .before .start-level .ensures) at (c .before .cursor-at .ensures))
+
+cast-result : tie.Need-cast-result
+cast-result c = omega (zarith, level-small (followed c))
+
+returns : tie.Need-returns
+returns c = let f = followed c in toZ-pos w32 (omega (arith, level-small f)) ∙ ap pos (f .now-is)
+
+pub attack-level-spec : {M : Type 1} → statement M
+attack-level-spec =
+    tie.close (tie.spec mul-ms div-ms start-level-requires cursor-at-requires cast-result returns)

@@ -1,0 +1,122 @@
+-- `note_envelope::seek` meets its contract. The invariant is `Passed`: the place is at a point or at the end, and from t on it stands
+-- for the same levels as the place where the loop began.
+-- Assumes nothing.
+use Rattle.note_envelope.proofs.seek.Statement.{statement}
+use Rattle.note_envelope.proofs.seek.Tie as tie
+use Prim.Native.Nat.{_+_, _-_, _≤_}
+use borrow.Author.Needs.{needs}
+use lib.ListN.{length}
+use mathlib.Core.Path.{_≡_, ap, _∙_}
+use mir.Syntax.{w32}
+use mir.Val.{toZ, ofZ}
+use mir.Facts.{toZ-ofZ}
+use native.Mathlib.Omega.{arith}
+use Rattle.laws.proofs.Signed.{back}
+use Rattle.small_chunks.specs.Pan.{heldToUnity}
+use Rattle.sheet_layout.proofs.NextLaws.{next-after}
+use Rattle.note_envelope.proofs.CursorLaws.{Passed, passed-none, passed-more, point-long, stopped-way, stopped-rest}
+
+abbrev Inv-loop : tie.InvT-loop
+Inv-loop part t before₀ level₀ at₀ before level at = Passed part t at₀ before₀ (toZ w32 level₀) at before (toZ w32 level)
+
+abbrev μ-loop : tie.MeasureT-loop
+μ-loop part t before₀ level₀ at₀ before level at = length part - at
+
+-- the point in hand lies within the part
+long : (c : tie.In-loop Inv-loop μ-loop) → c .before .loop .at + 7 ≤ length (c .before .before .before .before .before .args .part .now)
+long c = point-long (c .before .loop .inv) (c .loop-test .taken)
+
+-- the level that was read, as the machine reads it back
+dest-is : (c : tie.After-read Inv-loop μ-loop) → toZ w32 (ofZ w32 (c .read .result .dest)) ≡ c .read .result .dest
+dest-is c = toZ-ofZ (search needs)
+
+next-member-requires : tie.Need-next-member-requires Inv-loop μ-loop
+next-member-requires c κs = c .before .before .pre .inside
+
+loop-holds : tie.Need-loop-holds Inv-loop μ-loop
+loop-holds c =
+    let a = c .before .before .before in
+    passed-none (a .args .part .now) (a .args .e) (a .args .t) (c .next-member .result) (toZ w32 (ofZ w32 (a .args .e .level))) (a .pre) (c .next-member .ensures)
+
+add-body : tie.Need-add-body Inv-loop μ-loop
+add-body c = omega arith
+
+read-requires : tie.Need-read-requires Inv-loop μ-loop
+read-requires c κs = omega (arith, long c)
+
+sub-into : tie.Need-sub-into Inv-loop μ-loop
+sub-into c = c .before .before .loop .inv .passed
+
+cast-duration : tie.Need-cast-duration Inv-loop μ-loop
+cast-duration c = search needs
+
+cast-on-the-way : tie.Need-cast-on-the-way Inv-loop μ-loop
+cast-on-the-way c = search needs
+
+on-the-way-requires : tie.Need-on-the-way-requires Inv-loop μ-loop
+on-the-way-requires c κs = c .before .if1 .taken
+
+held-to-unity-requires : tie.Need-held-to-unity-requires Inv-loop μ-loop
+held-to-unity-requires c κs = tt
+
+returns : tie.Need-returns Inv-loop μ-loop
+returns c =
+    let r = c .before .before .before .before .before in
+    let l = r .before .before in
+    let a = l .before .before .before .before in
+    stopped-way (a .args .part .now) (a .args .e) (a .args .t) (l .before .next-member .result) (l .loop .at) (l .loop .before) (toZ w32 (l .loop .level)) (c .held-to-unity .result) (search needs) (l .before .next-member .ensures) (l .loop .inv)
+    (r .read .result) (toZ w32 (ofZ w32 (r .read .result .dest))) (r .before .loop-test .taken) (r .read .ensures) (dest-is r) (c .before .before .before .if1 .taken)
+    (c .held-to-unity .ensures ∙ ap heldToUnity (back w32 (c .before .on-the-way .ok) ∙ c .before .on-the-way .ensures))
+
+add-before : tie.Need-add-before Inv-loop μ-loop
+add-before c = search needs
+
+add-next : tie.Need-add-next Inv-loop μ-loop
+add-next c = omega (arith, long (c .before .before .before .before))
+
+next-member-requires-2 : tie.Need-next-member-requires-2 Inv-loop μ-loop
+next-member-requires-2 c κs = long (c .before .before .before .before)
+
+loop-less : tie.Need-loop-less Inv-loop μ-loop
+loop-less c =
+    let r = c .before .before .before .before in
+    let l = r .before .before in
+    omega (arith, c .next-member2 .ensures, next-after 6 (l .before .before .before .before .args .part .now) (l .loop .at + 7), r .before .loop-test .taken)
+
+loop-again : tie.Need-loop-again Inv-loop μ-loop
+loop-again c =
+    let r = c .before .before .before .before in
+    passed-more (r .before .before .loop .inv) (r .read .result) (toZ w32 (ofZ w32 (r .read .result .dest))) (c .next-member2 .result) (r .before .loop-test .taken) (r .read .ensures) (dest-is r) (c .before .before .if1 .left) (c .next-member2 .ensures)
+
+held-to-unity-requires-2 : tie.Need-held-to-unity-requires-2 Inv-loop μ-loop
+held-to-unity-requires-2 c κs = tt
+
+returns-2 : tie.Need-returns-2 Inv-loop μ-loop
+returns-2 c =
+    let l = c .before .before in
+    let a = l .before .before .before .before in
+    stopped-rest (a .args .part .now) (a .args .e) (a .args .t) (l .before .next-member .result) (l .loop .at) (l .loop .before) (toZ w32 (l .loop .level)) (c .held-to-unity2 .result) (search needs) (l .before .next-member .ensures) (l .loop .inv) (c .before .loop-test .left) (c .held-to-unity2 .ensures)
+
+pub seek-spec : {M : Type 1} → statement M
+seek-spec =
+    tie.close
+    (tie.spec
+    Inv-loop
+    μ-loop
+    next-member-requires
+    loop-holds
+    add-body
+    read-requires
+    sub-into
+    cast-duration
+    cast-on-the-way
+    on-the-way-requires
+    held-to-unity-requires
+    returns
+    add-before
+    add-next
+    next-member-requires-2
+    loop-less
+    loop-again
+    held-to-unity-requires-2
+    returns-2)

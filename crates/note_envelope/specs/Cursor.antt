@@ -1,0 +1,57 @@
+-- What a place in an envelope stands for: the points from it on, and the level and the time that they start from.
+use Prim.Native.Nat.{ℕ, _+_, _-_, _≤_}
+use mathlib.Core.List.{List}
+use mathlib.Core.Path.{_≡_}
+use lib.Dec.{leb}
+use lib.IntN.{ℤ}
+use lib.ListN.{length, drop}
+use Rattle.small_chunks.specs.Pan.{heldToUnity}
+use Rattle.envelope.specs.Envelope.{levelAt, totalDuration}
+use Rattle.sheet_layout.specs.Members.{Whole, pointsIn}
+use Rattle.note_envelope.specs.declared.EnvelopeCursor.{EnvelopeCursor}
+
+-- the level at s, from the point at `at`, which begins `before` milliseconds from the start at `level`
+unfoldable pub levelFrom : List ℕ → ℕ → ℕ → ℤ → ℕ → ℤ
+levelFrom part at before level s = levelAt (pointsIn (drop at part)) level (s - before)
+
+-- when the last point from there on ends
+unfoldable pub endFrom : List ℕ → ℕ → ℕ → ℕ
+endFrom part at before = before + totalDuration (pointsIn (drop at part))
+
+-- the levels that a cursor stands for
+abbrev pub curve : List ℕ → EnvelopeCursor → ℕ → ℤ
+curve part e s = levelFrom part (e .at) (e .before) (e .level) s
+
+-- the end that it stands for
+abbrev pub endOf : List ℕ → EnvelopeCursor → ℕ
+endOf part e = endFrom part (e .at) (e .before)
+
+-- a cursor that can be moved to a time from t on
+pub record Ready (part : List ℕ) (e : EnvelopeCursor) (t : ℕ) : Type 0 where
+  pub inside : e .at ≤ length part
+  pub whole : Whole 6 6 (drop (e .at) part)
+  pub passed : e .before ≤ t
+
+-- r is e moved to t: what it says of t, and that from t on it stands for the same levels
+pub record Moved (part : List ℕ) (e : EnvelopeCursor) (t : ℕ) (r : EnvelopeCursor) : Type 0 where
+  pub at-is : r .ms ≡ t
+  pub now-is : r .now ≡ heldToUnity (curve part e t)
+  pub ended-is : r .ended ≡ leb (endOf part e) t
+  pub ready : Ready part r t
+  pub end-is : endOf part r ≡ endOf part e
+  pub later : (s : ℕ) → t ≤ s → curve part r s ≡ curve part e s
+
+-- what a cursor says of its own time is so
+pub record Stood (part : List ℕ) (e : EnvelopeCursor) : Type 0 where
+  pub now-is : e .now ≡ heldToUnity (curve part e (e .ms))
+  pub ended-is : e .ended ≡ leb (endOf part e) (e .ms)
+  pub ready : Ready part e (e .ms)
+
+-- e stands at t on the envelope of a part, begun at `start`, and follows it from there on
+pub record Follows (part : List ℕ) (start : ℤ) (t : ℕ) (e : EnvelopeCursor) : Type 0 where
+  pub at-is : e .ms ≡ t
+  pub now-is : e .now ≡ heldToUnity (levelAt (pointsIn part) start t)
+  pub ended-is : e .ended ≡ leb (totalDuration (pointsIn part)) t
+  pub ready : Ready part e t
+  pub end-is : endOf part e ≡ totalDuration (pointsIn part)
+  pub later : (s : ℕ) → t ≤ s → curve part e s ≡ levelAt (pointsIn part) start s

@@ -1,0 +1,58 @@
+-- What a run says of the path, and the run before the first step.
+--     place-sequence, place-loop              the path in numbers is that of the sequence, or that of the loop
+--     run-front                               the run before the first step is good
+--     reached-here, place-is                  where step q lies by a run that has been led to it
+--     reached-good, reached-later             such a run is good still, and has begun by any later step
+-- Assumes nothing.
+use Prim.Native.Nat.{ℕ, _+_, _-_, _≤_, _<_}
+use mathlib.Core.Bool.{Bool, true, false, cond}
+use mathlib.Core.List.{List}
+use mathlib.Core.Option.{none, some}
+use mathlib.Core.Path.{_≡_, refl}
+use native.Mathlib.Nat.{sub-zero}
+use native.Mathlib.Omega.{arith}
+use borrow.Author.Tests.{ltb-true, ltb-false}
+use lib.Dec.{ltb}
+use Rattle.sheet_layout.specs.Members.{segmentsIn}
+use Rattle.note_path.specs.Path.{segmentsPath, loopPath}
+use Rattle.note_path.specs.Run.{placeOf, Sane, Good, Reached}
+use Rattle.note_path.specs.declared.run.Path.{Path}
+use Rattle.note_path.specs.declared.run.Run.{Run}
+
+module _ (p : Path) (part : List ℕ) where
+  pub place-sequence : (q : ℕ) → p .sequence ≡ true → placeOf p part q ≡ segmentsPath (p .first) (p .scale) (segmentsIn part) q
+  unfolding placeOf
+  place-sequence q t = rw t
+
+  pub place-loop : (q : ℕ) → p .sequence ≡ false → placeOf p part q ≡ loopPath (p .first) (p .«one_shot») (p .repeat) q
+  unfolding placeOf
+  place-loop q t = rw t
+
+  pub run-front : Sane p part → Good p part (record { at = 0; from = 0; until = 0; start = p .first })
+  run-front s =
+      record {
+        inside = omega arith;
+        order = omega arith;
+        within = omega (arith, s .looped);
+        here = λ q g₁ g₂. absurd (omega arith);
+        rest = s .segments;
+        whole = s .whole;
+        later = λ t q g. rw sub-zero (place-sequence q t);
+      }
+
+module _ {p : Path} {part : List ℕ} {q : ℕ} {r : Run} (h : Reached p part q r) where
+  pub reached-good : Good p part r
+  reached-good = h .good
+
+  pub reached-later : (later : ℕ) → q ≤ later → r .from ≤ later
+  reached-later later g = omega (arith, h .begun)
+
+  pub reached-here : q < r .until → placeOf p part q ≡ some (r .start + (q - r .from))
+  reached-here g = h .good .here q (h .begun) g
+
+  pub place-is : placeOf p part q ≡ cond (ltb q (r .until)) (some (r .start + (q - r .from))) none
+  place-is = go (ltb q (r .until)) refl
+    where
+      go : (f : Bool) → ltb q (r .until) ≡ f → placeOf p part q ≡ cond f (some (r .start + (q - r .from))) none
+      go true e = reached-here (ltb-true q (r .until) e)
+      go false e = h .past (ltb-false q (r .until) e)

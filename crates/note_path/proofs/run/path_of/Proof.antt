@@ -1,0 +1,80 @@
+-- `note_path::run::path_of` meets its contract: the octave lies within the samples, so no product passes 64 bits.
+-- Assumes nothing.
+use Prim.Native.Nat.{_+_, _-_, _*_, _<_, _^_}
+use mathlib.Core.Path.{sym, _∙_}
+use native.Mathlib.Omega.{arith}
+use lib.Pow.{pow-pos}
+use borrow.Author.Needs.{needs}
+use Rattle.note_path.proofs.OctavePathLaws.{path-none, octave-fits, path-some}
+use Rattle.note_path.proofs.run.path_of.Statement.{statement}
+use Rattle.note_path.proofs.run.path_of.Tie as tie
+
+-- the octave's start and its parts, added up
+fits : (c : tie.After-hi-octave-samples) →
+    let h = c .before .before .before .args .h in
+    let scale = c .before .power-of-two .result in
+    c .hi-octave-samples .result * (scale - 1) + (h .«one_shot_hi_samples» * scale + h .«repeat_hi_samples» * scale) < 2 ^ 63
+fits c =
+    let s = c .before .before .before in
+    let a = s .args in
+    omega (
+      arith,
+      s .pre .0 .samples-small,
+      octave-fits (a .h) (a .k) (a .sequence) (a .samples) (a .segments .now) (c .before .power-of-two .result) (c .before .power-of-two .ensures) (s .pre .0) (s .pre .1) (c .hi-octave-samples .result) (c .hi-octave-samples .ensures),
+    )
+
+power-of-two-requires : tie.Need-power-of-two-requires
+power-of-two-requires c κs = c .before .pre .0 .octave-small
+
+hi-octave-samples-requires : tie.Need-hi-octave-samples-requires
+hi-octave-samples-requires c κs = search needs
+
+returns : tie.Need-returns
+returns c =
+    let s = c .before .before .before .before in
+    let a = s .args in
+    let p = c .before .before .power-of-two in
+    path-none (a .h) (a .k) (a .sequence) (a .samples) (a .segments .now) (p .result) (p .ensures) (s .pre .0) (s .pre .1)
+    (sym (c .before .hi-octave-samples .ensures) ∙ c .if1 .taken)
+
+sub-first : tie.Need-sub-first
+sub-first c = omega (arith, c .before .before .power-of-two .ensures, pow-pos (c .before .before .before .before .args .k))
+
+mul-first : tie.Need-mul-first
+mul-first c = omega (arith, fits (c .before))
+
+cast-one-shot : tie.Need-cast-one-shot
+cast-one-shot c = search needs
+
+mul-one-shot : tie.Need-mul-one-shot
+mul-one-shot c = omega (arith, fits (c .before .before))
+
+cast-repeat : tie.Need-cast-repeat
+cast-repeat c = search needs
+
+mul-repeat : tie.Need-mul-repeat
+mul-repeat c = omega (arith, fits (c .before .before .before))
+
+returns-2 : tie.Need-returns-2
+returns-2 c =
+    let s = c .before .before .before .before .before .before in
+    let a = s .args in
+    let p = c .before .before .before .before .power-of-two in
+    let n = c .before .before .before .hi-octave-samples in
+    path-some (a .h) (a .k) (a .sequence) (a .samples) (a .segments .now) (p .result) (p .ensures) (s .pre .0) (s .pre .1)
+    (n .result) (n .ensures) (c .before .before .if1 .left)
+
+pub path-of-spec : {M : Type 1} → statement M
+path-of-spec =
+    tie.close
+    (tie.spec
+    power-of-two-requires
+    hi-octave-samples-requires
+    returns
+    sub-first
+    mul-first
+    cast-one-shot
+    mul-one-shot
+    cast-repeat
+    mul-repeat
+    returns-2)
