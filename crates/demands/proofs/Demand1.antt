@@ -17,7 +17,7 @@ use Rattle.fibonacci.specs.Decode.{fibChannel}
 use Rattle.fibonacci.specs.Encode.{fibBytes}
 use Rattle.body_decode.specs.Body.{decodedBody}
 use Rattle.sheet.specs.Flat.{flat}
-use Rattle.note_frame.specs.declared.Frame.{Frame}
+use Rattle.note_frame.specs.declared.chain.Frame.{Frame}
 use Rattle.note.specs.Fill.{answerOf as fillAnswer, fillSheet, noteAfter, blockAfter}
 use Rattle.note.specs.Note.{requestOf}
 use Rattle.note.specs.declared.Answer.the-variants as Answer

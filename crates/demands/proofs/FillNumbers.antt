@@ -23,7 +23,7 @@ use Rattle.sheet.specs.Voice.{Voice}
 use Rattle.sheet.specs.declared.judge.Judged.{Judged}
 use Rattle.sheet.specs.declared.judge.Judged.the-variants as judged
 use Rattle.body_read.specs.Sides.{Sides}
-use Rattle.note_frame.specs.declared.Frame.{Frame}
+use Rattle.note_frame.specs.declared.chain.Frame.{Frame}
 use Rattle.note_rules.specs.Rules.{Rule, Holds, NoneHolds, keyUpAhead, fillRules}
 use Rattle.note_rules.specs.declared.state.Request.{Request}
 use Rattle.note_rules.proofs.RuleLaws.{rules-are, not-ahead, never-ahead}

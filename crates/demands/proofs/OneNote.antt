@@ -10,14 +10,14 @@ use native.Mathlib.Omega.{arith}
 use lib.IntN.{ℤ}
 use lib.ListN.{length, length-append}
 use Rattle.refusal.specs.Outcome.{Outcome, gives, refuses}
-use Rattle.note_frame.specs.declared.Frame.{Frame}
-use Rattle.note_stage.specs.Frames.{framesFrom, interleaved}
-use Rattle.note_stage.proofs.FramesLaws.{frames-none, frames-length, frames-join, frames-same, interleaved-none, interleaved-length, interleaved-half, interleaved-join}
-use Rattle.note_rules.specs.declared.state.Key.{Key}
-use Rattle.note_rules.specs.declared.state.Key.the-variants.{Held, Released}
-use Rattle.note_block.specs.Frame.{frame}
+use Rattle.note_frame.specs.declared.chain.Frame.{Frame}
+use Rattle.note_frame.specs.Frame.{frame}
+use Rattle.note_frame.specs.Frames.{framesFrom, interleaved}
+use Rattle.note_frame.proofs.FramesLaws.{frames-none, frames-length, frames-join, frames-same, interleaved-none, interleaved-length, interleaved-half, interleaved-join}
+use Rattle.note_frame.specs.declared.playing.Key.{Key}
+use Rattle.note_frame.specs.declared.playing.Key.the-variants.{Held, Released}
 use Rattle.note.proofs.BlockLaws.{block-frames}
-use Rattle.note_block.proofs.FrameLaws.{frame-put}
+use Rattle.note_frame.proofs.FrameLaws.{frame-put}
 use Rattle.voice_read.specs.ReadVoice.{Reading}
 use Rattle.demands.specs.Reckoning.{Call, fill, keyUp, Started, State, atFirst, setBy, fillOf, grown, putOut, reckonFrom}
 use Rattle.demands.specs.Reckoning.{hasKeyUp, beforeKeyUp, framesOf, keyOf, firstFrames}

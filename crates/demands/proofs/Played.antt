@@ -14,9 +14,9 @@ use Rattle.refusal.specs.Numbers.{bufferShort}
 use Rattle.refusal.specs.Outcome.{Outcome, gives, refuses, andThen}
 use Rattle.field.specs.BigEndian.{Bytes}
 use Rattle.sheet.specs.Flat.{flat}
-use Rattle.note_frame.specs.declared.Frame.{Frame}
-use Rattle.note_rules.specs.declared.state.Key.{Key}
-use Rattle.note_rules.specs.declared.state.Key.the-variants.{Held, Released}
+use Rattle.note_frame.specs.declared.chain.Frame.{Frame}
+use Rattle.note_frame.specs.declared.playing.Key.{Key}
+use Rattle.note_frame.specs.declared.playing.Key.the-variants.{Held, Released}
 use Rattle.note_rules.proofs.RuleLaws.{NotAhead, never-ahead}
 use Rattle.note.specs.Fill.{fillSheet, answerOf, noteAfter}
 use Rattle.note.specs.Note.{startOf, keyUpOf, requestOf}

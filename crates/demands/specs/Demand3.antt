@@ -16,7 +16,7 @@ use Rattle.sheet.specs.Judge.{judged}
 use Rattle.sheet.specs.Read.{readSheet}
 use Rattle.sheet.specs.declared.judge.Judged.the-variants as Judged
 use Rattle.body_read.specs.Sides.{Sides}
-use Rattle.note_frame.specs.declared.Frame.{Frame}
+use Rattle.note_frame.specs.declared.chain.Frame.{Frame}
 use Rattle.note_rules.specs.Rules.{Holds, NoneHolds, fillRules}
 use Rattle.note_rules.specs.declared.state.Request.{Request}
 use Rattle.note.specs.Fill.{fillSheet, answerOf, noteAfter, blockAfter}

@@ -5,12 +5,12 @@ use mathlib.Core.List.{List, [], _∷_, _++_}
 use lib.IntN.{ℤ}
 use lib.ListN.{length}
 use Rattle.refusal.specs.Outcome.{Outcome, gives, refuses, andThen}
-use Rattle.note_frame.specs.declared.Frame.{Frame}
-use Rattle.note_stage.specs.Frames.{framesFrom, interleaved}
-use Rattle.note_rules.specs.declared.state.Key.{Key}
-use Rattle.note_rules.specs.declared.state.Key.the-variants.{Held, Released}
+use Rattle.note_frame.specs.declared.chain.Frame.{Frame}
+use Rattle.note_frame.specs.Frame.{frame}
+use Rattle.note_frame.specs.Frames.{framesFrom, interleaved}
+use Rattle.note_frame.specs.declared.playing.Key.{Key}
+use Rattle.note_frame.specs.declared.playing.Key.the-variants.{Held, Released}
 use Rattle.note.specs.Fill.{fillVoice, answerOf}
-use Rattle.note_block.specs.Frame.{frame}
 use Rattle.note.specs.declared.Answer.{Answer}
 use Rattle.voice_read.specs.ReadVoice.{Reading, readVoice}
 

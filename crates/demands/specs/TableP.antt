@@ -13,7 +13,7 @@ use Rattle.fibonacci.specs.Decode.{fibChannel}
 use Rattle.fibonacci.specs.Encode.{fibBytes}
 use Rattle.envelope.specs.Envelope.{levelAt}
 use Rattle.note_frame.specs.Frame.{value}
-use Rattle.note_gains.specs.Gains.{gainsOf}
+use Rattle.note_frame.specs.Gains.{gainsOf}
 use Rattle.note.specs.declared.Answer.the-variants as Answer
 use Rattle.demands.specs.Demand2.{exampleFile, exampleVoice}
 use Rattle.demands.specs.Reckoning.{fill, reckon}

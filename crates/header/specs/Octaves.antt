@@ -1,7 +1,7 @@
 -- How many samples the octaves have. Octave 0 is the highest and shortest; each next one is twice as long.
 use Prim.Native.Nat.{ℕ, _+_, _-_, _*_, _%_, _^_, min, max}
 use mathlib.Core.Bool.{Bool, cond}
-use lib.Dec.{ltb}
+use lib.Dec.{eqb, ltb}
 use Rattle.refusal.specs.Numbers.{octaveTotal}
 use Rattle.header.specs.declared.«voice_header».VoiceHeader.{VoiceHeader}
 use Rattle.header.specs.declared.«voice_header».SampleCount.{SampleCount}
@@ -16,6 +16,10 @@ hi h = h .«one_shot_hi_samples» + h .«repeat_hi_samples»
 -- the number of octaves, 0 counting as 1
 abbrev pub octaves : VoiceHeader → ℕ
 octaves h = max (h .«ct_octave») 1
+
+-- octave k is there: below the number of octaves; if hi = 0, only octave 0
+abbrev pub octaveThere : VoiceHeader → ℕ → Bool
+octaveThere h k = cond (eqb (hi h) 0) (eqb k 0) (ltb k (octaves h))
 
 -- a length n of octave 0 as it is in octave k, in 64 bits: bits shifted out are dropped. Absent from k = 64 or the number of octaves on
 abbrev pub inOctave : VoiceHeader → ℕ → ℕ → SampleCount

@@ -7,7 +7,7 @@ ghost use lib.ListN.{length, drop};
 ghost use Rattle.header.specs.Compression.{knownCompression};
 ghost use Rattle.header.specs.Frequency.{cycleFrequency};
 ghost use Rattle.header.specs.Header.{headerOf, headerBytes, parsedHeader};
-ghost use Rattle.header.specs.Octaves.{hi, inOctave, total, loops};
+ghost use Rattle.header.specs.Octaves.{hi, inOctave, total, loops, octaveThere};
 ghost use Rattle.header_volume.specs.Volume.{volumeFloat};
 
 pub struct VoiceHeader {
@@ -110,6 +110,19 @@ impl VoiceHeader {
         ensures { λ r. ⌜ r ≡ hi self ⌝ }
     {
         self.one_shot_hi_samples as u64 + self.repeat_hi_samples as u64
+    }
+
+    // That octave k is there. If hi = 0 only octave 0 is, though `octave_samples` gives 0 for others.
+    pub fn has_octave(self, k: u8) -> bool
+        ensures { λ r. ⌜ r ≡ octaveThere self k ⌝ }
+    {
+        if self.hi_octave_samples() == 0 {
+            return k == 0;
+        }
+        if self.ct_octave == 0 {
+            return k == 0;
+        }
+        k < self.ct_octave
     }
 
     // A length n of octave 0 as it is in octave k. Bits shifted out of 64 are dropped.

@@ -1,7 +1,7 @@
 // A note on a voice: started, filled block by block, and released. Each call takes the note and gives the note after it.
 use note_block::next_block;
-use note_rules::Key;
-use note_rules::Request;
+use note_frame::Key;
+use note_frame::Playing;
 use note_rules::fill_refusal;
 use sheet::Judged;
 use sheet::judge_sheet;
@@ -11,16 +11,14 @@ ghost use lib.ListN.{length};
 ghost use Rattle.sheet.specs.Judge.{judged};
 ghost use Rattle.sheet.specs.Read.{readSheet};
 ghost use Rattle.sheet.specs.declared.judge.Judged.the-variants.{Sound};
-ghost use Rattle.note.specs.Note.{startOf, keyAfter, keyUpOf, advanceOf, requestOf};
-ghost use Rattle.note.specs.Fill.{fillVoice, fillSheet, answerOf, noteAfter, blockAfter};
+ghost use Rattle.body_read.specs.Sides.{Sides};
+ghost use Rattle.note.specs.Note.{startOf, keyAfter, keyUpOf, advanceOf};
+ghost use Rattle.note.specs.Fill.{fillVoice, resultOf, afterFill};
 
-// A note: its octave, its step (65,536 is one sample a frame), the output rate, the frames filled, and whether it is held.
+// A note: how it plays (octave, step, output rate, held or released), and the frames filled.
 pub struct Note {
-    pub octave: u8,
-    pub step: u32,
-    pub rate: u32,
+    pub playing: Playing,
     pub frames: u32,
-    pub key: Key,
 }
 
 // How many frames of a block weren't over, or why there is none.
@@ -50,27 +48,31 @@ impl Note {
     pub fn start(octave: u8, step: u32, rate: u32) -> Self
         ensures { λ r. ⌜ r ≡ startOf octave step rate ⌝ }
     {
-        Note {
+        let playing = Playing {
             octave,
             step,
             rate,
-            frames: 0,
             key: Key::Held,
-        }
+        };
+        Note { playing, frames: 0 }
     }
 
     // The note after a key-up, which is at the frames filled. A later one changes nothing.
     pub fn key_up(self) -> Self
         ensures { λ r. ⌜ r ≡ keyUpOf self ⌝ }
     {
-        let before = self.key;
+        let p = self.playing;
+        let before = p.key;
         let key = released_at(before, self.frames);
-        Note {
-            octave: self.octave,
-            step: self.step,
-            rate: self.rate,
-            frames: self.frames,
+        let playing = Playing {
+            octave: p.octave,
+            step: p.step,
+            rate: p.rate,
             key,
+        };
+        Note {
+            playing,
+            frames: self.frames,
         }
     }
 
@@ -87,31 +89,24 @@ impl Note {
         self
     }
 
-    // What a fill of so many places asks.
-    fn request(self, places: usize) -> Request
-        ensures { λ r. ⌜ r ≡ requestOf self places ⌝ }
-    {
-        let key = self.key;
-        Request {
-            octave: self.octave,
-            step: self.step,
-            rate: self.rate,
-            frames: self.frames,
-            key,
-            places,
-        }
-    }
-
     // A fill of a sound sheet.
     fn fill_sound(self, sheet: &[u8], left: &[i8], right: &[i8], out: &mut [i16]) -> Filled
         requires { ⌜ judged (now sheet) ≡ Sound ⌝ }
-        ensures answer { λ r. ⌜ r .answer ≡ answerOf (fillVoice (readSheet (now (sheet .entry))) (record { left = now (left .entry); right = now (right .entry) }) (requestOf self (length (now (out .entry))))) ⌝ }
-        ensures note { λ r. ⌜ r .note ≡ noteAfter (fillVoice (readSheet (now (sheet .entry))) (record { left = now (left .entry); right = now (right .entry) }) (requestOf self (length (now (out .entry))))) self ⌝ }
-        ensures buffer { λ _. ⌜ now (out .exit) ≡ blockAfter (fillVoice (readSheet (now (sheet .entry))) (record { left = now (left .entry); right = now (right .entry) }) (requestOf self (length (now (out .entry))))) (now (out .entry)) ⌝ }
+        ensures answer { λ r. ⌜ r .answer ≡ resultOf (fillVoice (readSheet (now (sheet .entry))) (record { left = now (left .entry); right = now (right .entry) }) (self .playing) (self .frames) (length (now (out .entry)))) self (now (out .entry)) .answer ⌝ }
+        ensures note { λ r. ⌜ r .note ≡ resultOf (fillVoice (readSheet (now (sheet .entry))) (record { left = now (left .entry); right = now (right .entry) }) (self .playing) (self .frames) (length (now (out .entry)))) self (now (out .entry)) .note ⌝ }
+        ensures buffer { λ _. ⌜ now (out .exit) ≡ resultOf (fillVoice (readSheet (now (sheet .entry))) (record { left = now (left .entry); right = now (right .entry) }) (self .playing) (self .frames) (length (now (out .entry)))) self (now (out .entry)) .buffer ⌝ }
     {
         let l = layout_of(sheet);
-        let request = self.request(out.len());
-        let number = fill_refusal(sheet, l, left.len(), right.len(), request);
+        let playing = self.playing;
+        let number = fill_refusal(
+            sheet,
+            l,
+            left.len(),
+            right.len(),
+            playing,
+            self.frames,
+            out.len(),
+        );
         if number != 0 {
             return Filled {
                 note: self,
@@ -119,7 +114,7 @@ impl Note {
             };
         }
         let frames = out.len() / 2;
-        let count = next_block(request, sheet, l, left, right, out);
+        let count = next_block(playing, self.frames, sheet, l, left, right, out);
         let note = self.advance(frames);
         Filled {
             note,
@@ -130,9 +125,9 @@ impl Note {
     // Fills a buffer with the next block, left and right values by turns; answers how many of its frames aren't over. 15 to 17, 10, 13,
     // 18, 21 to 25, 31 to 34; a refused fill changes neither the buffer nor the note.
     pub fn fill(self, sheet: &[u8], left: &[i8], right: &[i8], out: &mut [i16]) -> Filled
-        ensures answer { λ r. ⌜ r .answer ≡ answerOf (fillSheet (now (sheet .entry)) (record { left = now (left .entry); right = now (right .entry) }) (requestOf self (length (now (out .entry))))) ⌝ }
-        ensures note { λ r. ⌜ r .note ≡ noteAfter (fillSheet (now (sheet .entry)) (record { left = now (left .entry); right = now (right .entry) }) (requestOf self (length (now (out .entry))))) self ⌝ }
-        ensures buffer { λ _. ⌜ now (out .exit) ≡ blockAfter (fillSheet (now (sheet .entry)) (record { left = now (left .entry); right = now (right .entry) }) (requestOf self (length (now (out .entry))))) (now (out .entry)) ⌝ }
+        ensures answer { λ r. ⌜ r .answer ≡ afterFill (now (sheet .entry)) (record { left = now (left .entry); right = now (right .entry) }) self (now (out .entry)) .answer ⌝ }
+        ensures note { λ r. ⌜ r .note ≡ afterFill (now (sheet .entry)) (record { left = now (left .entry); right = now (right .entry) }) self (now (out .entry)) .note ⌝ }
+        ensures buffer { λ _. ⌜ now (out .exit) ≡ afterFill (now (sheet .entry)) (record { left = now (left .entry); right = now (right .entry) }) self (now (out .entry)) .buffer ⌝ }
     {
         match judge_sheet(sheet) {
             Judged::Refused(number) => Filled {

@@ -17,7 +17,7 @@ use borrow.Author.Tests.{ltb-true, ltb-false, leb-true, leb-false, eqb-true, eqb
 use lib.Dec.{eqb, ltb, leb}
 use lib.ListN.{length}
 use Rattle.laws.proofs.Cases.{impossible, neither}
-use Rattle.header.specs.Octaves.{hi, octaves, totalSamples}
+use Rattle.header.specs.Octaves.{hi, octaves, octaveThere, totalSamples}
 use Rattle.header.specs.declared.«voice_header».VoiceHeader.{VoiceHeader}
 use Rattle.header.proofs.OctaveLaws.{octave-end, many-octaves}
 use Rattle.small_chunks.specs.declared.sequence.Fade.{Fade}
@@ -25,14 +25,15 @@ use Rattle.small_chunks.specs.declared.sequence.SeqnSegment.{SeqnSegment}
 use Rattle.sheet.specs.Voice.{Voice, isStereo}
 use Rattle.body_read.specs.Sides.{lengthsSuit}
 use Rattle.body_read.proofs.SideLaws.{suit-parts}
-use Rattle.note_path.specs.Path.{pathOf, joinedLength, allValid}
+use Rattle.note_path.specs.Path.{segmentsOf, pathOf, joinedLength, allValid}
 use Rattle.note_path.specs.Run.{InOctave}
 use Rattle.note_path.proofs.LengthLaws.{sequence-ends, valid-order}
-use Rattle.note_gains.specs.Gains.{gainsOf, FadeOn, FadeFits}
-use Rattle.note_gains.proofs.GainsLaws.{gains-fade, gains-no-fade}
-use Rattle.note_rules.specs.Rules.{firstHolding, NoneHolds, octaveThere, segmentsOf, fadeMisses, keyUpAhead, voiceRules, sequenceRules, noteRules, fillRules}
-use Rattle.note_rules.specs.declared.state.Request.{Request}
-use Rattle.note_rules.proofs.RuleLaws.{none-holds, rules-numbered, none-of-three}
+use Rattle.note_frame.specs.Gains.{gainsOf, FadeOn, FadeShort}
+use Rattle.note_frame.proofs.GainsLaws.{gains-fade, gains-no-fade}
+use Rattle.refusal.specs.Rules.{firstHolding}
+use Rattle.note_rules.specs.Rules.{fadeMisses, keyUpAhead, fillRules}
+use Rattle.note_frame.specs.declared.playing.Playing.{Playing}
+use Rattle.note_rules.proofs.RuleLaws.{NoneOf, none-of}
 
 -- ---- the octave
 
@@ -87,45 +88,45 @@ fade-ends v n k fades q i = go (v .sequence) refl
 
 -- ---- what none of the rules leaves
 
-module _ (v : Voice) (left right : ℕ) (r : Request) (accepted : firstHolding (fillRules v left right r) ≡ 0) where
-  none-of : NoneHolds (voiceRules v left right) × NoneHolds (sequenceRules v (r .octave)) × NoneHolds (noteRules (v .header) r)
-  none-of = none-of-three v left right r (none-holds (fillRules v left right r) (rules-numbered v left right r) accepted)
+module _ (v : Voice) (left right : ℕ) (n : Playing) (frames places : ℕ) (accepted : firstHolding (fillRules v left right n frames places) ≡ 0) where
+  parts : NoneOf v left right n frames places
+  parts = none-of v left right n frames places accepted
 
   suits : lengthsSuit (v .header) (isStereo (v .channel)) left right ≡ true
-  suits = not-false (lengthsSuit (v .header) (isStereo (v .channel)) left right) (none-of .0 .1 .1 .0)
+  suits = not-false (lengthsSuit (v .header) (isStereo (v .channel)) left right) (parts .voice .1 .1 .0)
 
-  there : octaveThere (v .header) (r .octave) ≡ true
-  there = not-false (octaveThere (v .header) (r .octave)) (none-of .2 .1 .0)
+  there : octaveThere (v .header) (n .octave) ≡ true
+  there = not-false (octaveThere (v .header) (n .octave)) (parts .note .0)
 
-  pub in-octave : left < 2 ^ 63 → InOctave (v .header) (r .octave) left (segmentsOf (v .sequence))
+  pub in-octave : left < 2 ^ 63 → InOctave (v .header) (n .octave) left (segmentsOf (v .sequence))
   in-octave small =
       let h = v .header in
-      let o = octave-of h (r .octave) left there (suit-parts h (isStereo (v .channel)) left right suits .0) in
+      let o = octave-of h (n .octave) left there (suit-parts h (isStereo (v .channel)) left right suits .0) in
       record {
-        octave-small = octave-small h (r .octave) left o (leb-false (2 ^ 64) (totalSamples h) (none-of .0 .1 .0));
+        octave-small = octave-small h (n .octave) left o (leb-false (2 ^ 64) (totalSamples h) (parts .voice .1 .0));
         samples-small = small;
-        octave-within = octave-within h (r .octave) left o;
-        sole-octave = octave-sole h (r .octave) left o;
-        in-order = valid-order (segmentsOf (v .sequence)) (hi h) (not-false (allValid (segmentsOf (v .sequence)) (hi h)) (none-of .1 .0));
+        octave-within = octave-within h (n .octave) left o;
+        sole-octave = octave-sole h (n .octave) left o;
+        in-order = valid-order (segmentsOf (v .sequence)) (hi h) (not-false (allValid (segmentsOf (v .sequence)) (hi h)) (parts .sequence .0));
       }
 
-  pub fade-fits : FadeFits v (r .octave)
+  pub fade-fits : FadeShort v (n .octave)
   fade-fits =
-      let length = joinedLength (2 ^ r .octave) (segmentsOf (v .sequence)) in
-      let short : ltb 4294967295 length ≡ false = rw there at (none-of .1 .1 .1 .1 .0) in
-      fade-among (v .fade) (v .sequence) (r .octave) (none-of .1 .1 .1 .0) (omega (arith, ltb-false 4294967295 length short))
+      let length = joinedLength (2 ^ n .octave) (segmentsOf (v .sequence)) in
+      let short : ltb 4294967295 length ≡ false = rw there at (parts .octave .0) in
+      fade-among (v .fade) (v .sequence) (n .octave) (parts .sequence .1 .1 .0) (omega (arith, ltb-false 4294967295 length short))
 
   pub sides-same : isStereo (v .channel) ≡ true → left ≡ right
   sides-same two = sym (eqb-true right left (rw two at (suit-parts (v .header) (isStereo (v .channel)) left right suits .1)))
 
-  pub even-places : r .places % 2 ≡ 0
-  even-places = omega (arith, eqb-false (r .places % 2) 1 (none-of .2 .0))
+  pub even-places : places % 2 ≡ 0
+  even-places = omega (arith, eqb-false (places % 2) 1 (parts .even .0))
 
-  pub slow-step : r .step ≤ 16777216
-  slow-step = ltb-false 16777216 (r .step) (neither (eqb (r .step) 0) (ltb 16777216 (r .step)) (none-of .2 .1 .1 .0) .1)
+  pub slow-step : n .step ≤ 16777216
+  slow-step = ltb-false 16777216 (n .step) (neither (eqb (n .step) 0) (ltb 16777216 (n .step)) (parts .note .1 .0) .1)
 
-  pub some-rate : 0 < r .rate
-  some-rate = omega (arith, eqb-false (r .rate) 0 (neither (eqb (r .rate) 0) (ltb 192000 (r .rate)) (none-of .2 .1 .1 .1 .0) .0))
+  pub some-rate : 0 < n .rate
+  some-rate = omega (arith, eqb-false (n .rate) 0 (neither (eqb (n .rate) 0) (ltb 192000 (n .rate)) (parts .note .1 .1 .0) .0))
 
-  pub key-up-then : keyUpAhead (r .key) (r .frames) ≡ false
-  key-up-then = none-of .2 .1 .1 .1 .1 .0
+  pub key-up-then : keyUpAhead (n .key) frames ≡ false
+  key-up-then = parts .note .1 .1 .1 .0

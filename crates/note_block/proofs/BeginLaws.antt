@@ -25,54 +25,55 @@ use Rattle.sheet_layout.specs.declared.MaybeSequence.{MaybeSequence}
 use Rattle.note_path.specs.Path.{pathOf}
 use Rattle.note_path.specs.Run.{placeOf, sequenceIn, InOctave, Sane, PathIs}
 use Rattle.note_path.specs.declared.run.Path.{Path}
-use Rattle.note_frame.specs.declared.Gains.{Gains}
-use Rattle.note_gains.specs.Gains.{gainsOf, FadeFits}
-use Rattle.note_gains.proofs.GainsLaws.{gains-held, gains-stereo}
-use Rattle.note_rules.specs.Rules.{firstHolding, fillRules}
-use Rattle.note_rules.specs.declared.state.Request.{Request}
+use Rattle.note_frame.specs.declared.chain.Gains.{Gains}
+use Rattle.note_frame.specs.Gains.{gainsOf, FadeShort}
+use Rattle.note_frame.proofs.GainsLaws.{gains-bounded, gains-stereo}
+use Rattle.refusal.specs.Rules.{firstHolding}
+use Rattle.note_frame.specs.declared.playing.Playing.{Playing}
+use Rattle.note_rules.specs.Rules.{fillRules}
 use Rattle.note_rules.proofs.SequenceLaws.{part-segments, part-whole}
 use Rattle.note_block.specs.Block.{sequencePart, BlockReady}
 use Rattle.note_block.specs.Stages.{isThere}
 use Rattle.note_block.proofs.SheetLaws.{segments-at, sequence-is}
 use Rattle.note_block.proofs.AcceptedLaws.{in-octave, fade-fits, fade-ends, sides-same, slow-step, some-rate, key-up-then}
 
-module _ (r : Request) (sheet : List ℕ) (l : Layout) (left right : List ℤ) (bytes : (i : ℕ) → Fits w8 (getD sheet i 0)) (sound : judged sheet ≡ Sound)
-    (is : l ≡ layoutOf (readSheet sheet)) (accepted : firstHolding (fillRules (readSheet sheet) (length left) (length right) r) ≡ 0) (small : length left < 2 ^ 63) where
+module _ (n : Playing) (frames places : ℕ) (sheet : List ℕ) (l : Layout) (left right : List ℤ) (bytes : (i : ℕ) → Fits w8 (getD sheet i 0)) (sound : judged sheet ≡ Sound)
+    (is : l ≡ layoutOf (readSheet sheet)) (accepted : firstHolding (fillRules (readSheet sheet) (length left) (length right) n frames places) ≡ 0) (small : length left < 2 ^ 63) where
   -- the header that was read
   module _ (h : VoiceHeader) (header : h ≡ readSheet sheet .header) where
-    pub path-asks : InOctave h (r .octave) (length left) (segmentsIn (between (l .sequence) (l .fade) sheet)) × Whole 8 8 (between (l .sequence) (l .fade) sheet)
+    pub path-asks : InOctave h (n .octave) (length left) (segmentsIn (between (l .sequence) (l .fade) sheet)) × Whole 8 8 (between (l .sequence) (l .fade) sheet)
     path-asks =
-        rw (header, part-segments sheet bytes sound l is) (in-octave (readSheet sheet) (length left) (length right) r accepted small, part-whole sheet bytes sound l is)
+        rw (header, part-segments sheet bytes sound l is) (in-octave (readSheet sheet) (length left) (length right) n frames places accepted small, part-whole sheet bytes sound l is)
 
     -- the path that was made
     module _ (answer : MaybeSequence) (there : Bool) (path : Path) (answered : answer ≡ sequenceAnswer (readSheet sheet .sequence)) (told : there ≡ isThere answer)
-        (made : PathIs h (r .octave) there (length left) (between (l .sequence) (l .fade) sheet) path) where
-      place-is : (q : ℕ) → placeOf path (sequencePart sheet) q ≡ pathOf (readSheet sheet .sequence) (readSheet sheet .header) (length left) (r .octave) q
+        (made : PathIs h (n .octave) there (length left) (between (l .sequence) (l .fade) sheet) path) where
+      place-is : (q : ℕ) → placeOf path (sequencePart sheet) q ≡ pathOf (readSheet sheet .sequence) (readSheet sheet .header) (length left) (n .octave) q
       place-is q =
           ap (λ (part : List ℕ). placeOf path part q) (sym (segments-at sheet bytes sound l is))
           ∙ made .place-is q
-          ∙ ap (λ (h : VoiceHeader). pathOf (sequenceIn there (between (l .sequence) (l .fade) sheet)) h (length left) (r .octave) q) header
-          ∙ ap (λ (o : Option (List SeqnSegment)). pathOf o (readSheet sheet .header) (length left) (r .octave) q) (sequence-is sheet bytes sound l is answer there answered told)
+          ∙ ap (λ (h : VoiceHeader). pathOf (sequenceIn there (between (l .sequence) (l .fade) sheet)) h (length left) (n .octave) q) header
+          ∙ ap (λ (o : Option (List SeqnSegment)). pathOf o (readSheet sheet .header) (length left) (n .octave) q) (sequence-is sheet bytes sound l is answer there answered told)
 
-      pub block-ready : (g : Gains) (d : ℕ) (out : List ℤ) → g ≡ gainsOf (readSheet sheet) (r .octave) → r .frames ≤ 4294967295 → d ≡ min (length out / 2) (4294967295 - r .frames) → BlockReady r sheet l g path left right d out
+      pub block-ready : (g : Gains) (d : ℕ) (out : List ℤ) → g ≡ gainsOf (readSheet sheet) (n .octave) → frames ≤ 4294967295 → d ≡ min (length out / 2) (4294967295 - frames) → BlockReady n frames sheet l g path left right d out
       block-ready g d out gains-are counted part =
           rw gains-are
           (record {
             sound = sound;
             layout-is = is;
             gains-are = refl;
-            held = gains-held (readSheet sheet) (r .octave);
+            bounded = gains-bounded (readSheet sheet) (n .octave);
             sane = subst (Sane path) (segments-at sheet bytes sound l is) (made .sane);
             samples-are = made .samples-are;
             place-is = place-is;
-            sides-are = λ two. omega (arith, sides-same (readSheet sheet) (length left) (length right) r accepted (sym (gains-stereo (readSheet sheet) (r .octave)) ∙ two));
-            fade-ends = λ fades q i e. fade-ends (readSheet sheet) (length left) (r .octave) fades q i (sym (place-is q) ∙ e);
-            rate-some = some-rate (readSheet sheet) (length left) (length right) r accepted;
-            step-fits = slow-step (readSheet sheet) (length left) (length right) r accepted;
-            key-then = key-up-then (readSheet sheet) (length left) (length right) r accepted;
+            sides-are = λ two. omega (arith, sides-same (readSheet sheet) (length left) (length right) n frames places accepted (sym (gains-stereo (readSheet sheet) (n .octave)) ∙ two));
+            fade-ends = λ fades q i e. fade-ends (readSheet sheet) (length left) (n .octave) fades q i (sym (place-is q) ∙ e);
+            rate-some = some-rate (readSheet sheet) (length left) (length right) n frames places accepted;
+            step-fits = slow-step (readSheet sheet) (length left) (length right) n frames places accepted;
+            key-then = key-up-then (readSheet sheet) (length left) (length right) n frames places accepted;
             in-time = omega arith;
             room = omega arith;
           })
 
-  pub gains-ask : (r .octave < 64) × FadeFits (readSheet sheet) (r .octave)
-  gains-ask = (in-octave (readSheet sheet) (length left) (length right) r accepted small .octave-small, fade-fits (readSheet sheet) (length left) (length right) r accepted)
+  pub gains-ask : (n .octave < 64) × FadeShort (readSheet sheet) (n .octave)
+  gains-ask = (in-octave (readSheet sheet) (length left) (length right) n frames places accepted small .octave-small, fade-fits (readSheet sheet) (length left) (length right) n frames places accepted)

@@ -1,7 +1,6 @@
--- Laws of the frames of a note, and of its next block.
+-- Laws of the next block of a note.
 pub mod SilenceLaws
 pub mod StartLaws
-pub mod FrameLaws
 pub mod StageLaws
 pub mod WholeLaws
 pub mod AcceptedLaws

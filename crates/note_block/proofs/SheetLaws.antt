@@ -22,7 +22,7 @@ use Rattle.sheet_layout.specs.declared.Layout.{Layout}
 use Rattle.sheet_layout.specs.declared.MaybeSequence.{MaybeSequence}
 use Rattle.sheet_layout.proofs.PointLaws.{places, attack-points, attacks-whole, release-points, releases-whole}
 use Rattle.note_path.specs.Run.{sequenceIn}
-use Rattle.note_rules.specs.Rules.{segmentsOf}
+use Rattle.note_path.specs.Path.{segmentsOf}
 use Rattle.note_rules.proofs.SequenceLaws.{part-segments}
 use Rattle.note_block.specs.Block.{sequencePart}
 use Rattle.note_block.specs.Stages.{isThere}

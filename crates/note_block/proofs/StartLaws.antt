@@ -8,7 +8,7 @@ use lib.ListN.{length, drop}
 use Rattle.sheet_layout.specs.Members.{membersIn, pointsIn, nextMember}
 use Rattle.sheet_layout.proofs.NextLaws.{next-stands, next-same, member-here, members-end}
 use Rattle.small_chunks.specs.Envelope.{pointOf}
-use Rattle.note_block.specs.Frame.{startLevel}
+use Rattle.note_frame.specs.Frame.{startLevel}
 
 module _ (attack : List ℕ) (first : ℕ) (is : first ≡ nextMember 6 0 attack) where
   -- the points from the first on are all of them

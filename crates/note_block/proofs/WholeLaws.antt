@@ -9,10 +9,10 @@ use lib.IntN.{ℤ, pos}
 use lib.ListN.{length, take, drop, replicate}
 use lib.Seq.{take-at}
 use Rattle.note_frame.specs.Frame.{silent}
-use Rattle.note_frame.specs.declared.Frame.{Frame}
+use Rattle.note_frame.specs.Frames.{framesFrom, interleaved, sounding}
+use Rattle.note_frame.specs.declared.chain.Frame.{Frame}
 use Rattle.note_stage.specs.Block.{Played}
-use Rattle.note_stage.specs.Frames.{framesFrom, interleaved, sounding}
-use Rattle.note_stage.proofs.FramesLaws.{frames-same, frames-silent, frames-length, frames-join, interleaved-length, interleaved-join, interleaved-silent, sounding-join, sounding-silent}
+use Rattle.note_frame.proofs.FramesLaws.{frames-same, frames-silent, frames-length, frames-join, interleaved-length, interleaved-join, interleaved-silent, sounding-join, sounding-silent}
 
 -- a block of frames that are the same
 pub played-same : (f g : ℕ → Frame) (m d : ℕ) (before after : List ℤ) (r : ℕ) → ((j : ℕ) → m ≤ j → j < m + d → f j ≡ g j) → Played f m d before after r → Played g m d before after r

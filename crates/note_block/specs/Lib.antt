@@ -1,4 +1,3 @@
--- The meaning of a note's frames.
-pub mod Frame
+-- What the code of a block takes from the sheet, asks and gives. The frames themselves are defined in note_frame.
 pub mod Stages
 pub mod Block

@@ -8,9 +8,8 @@ use Rattle.envelope.specs.Envelope.{levelAt}
 use Rattle.sheet_layout.specs.Members.{pointsIn}
 use Rattle.sheet_layout.specs.declared.MaybeSequence.{MaybeSequence}
 use Rattle.sheet_layout.specs.declared.MaybeSequence.the-variants.{Segments, NoSequence}
-use Rattle.note_stage.specs.Frames.{msSince}
+use Rattle.note_frame.specs.Frame.{msSince, startLevel}
 use Rattle.note_stage.specs.declared.Stage.{Stage}
-use Rattle.note_block.specs.Frame.{startLevel}
 
 -- there is a sequence
 abbrev pub isThere : MaybeSequence → Bool

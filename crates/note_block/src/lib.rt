@@ -8,11 +8,11 @@ use crate::stages::attack_stage;
 use crate::stages::is_there;
 use crate::stages::release_stage;
 use note_frame::Gains;
-use note_gains::gains_of;
+use note_frame::Key;
+use note_frame::Playing;
+use note_frame::gains_of;
 use note_path::Path;
 use note_path::path_of;
-use note_rules::Key;
-use note_rules::Request;
 use note_stage::play;
 use sheet_layout::Layout;
 use sheet_layout::sheet_header;
@@ -24,14 +24,16 @@ ghost use Rattle.sheet_layout.specs.Layout.{layoutOf};
 ghost use Rattle.sheet.specs.Judge.{judged};
 ghost use Rattle.sheet.specs.Read.{readSheet};
 ghost use Rattle.sheet.specs.declared.judge.Judged.the-variants.{Sound};
-ghost use Rattle.note_stage.specs.Frames.{framesFrom, interleaved, sounding};
-ghost use Rattle.note_rules.specs.Rules.{firstHolding, fillRules};
-ghost use Rattle.note_block.specs.Frame.{frame};
+ghost use Rattle.note_frame.specs.Frame.{frame};
+ghost use Rattle.note_frame.specs.Frames.{framesFrom, interleaved, sounding};
+ghost use Rattle.refusal.specs.Rules.{firstHolding};
+ghost use Rattle.note_rules.specs.Rules.{fillRules};
 ghost use Rattle.note_block.specs.Block.{BlockReady, BlockPlayed};
 
 // d frames from the frames filled on. A block is held or released as a whole, since a key-up is never ahead of it.
 fn play_stage(
-    r: Request,
+    n: Playing,
+    frames: u32,
     sheet: &[u8],
     l: Layout,
     g: Gains,
@@ -41,24 +43,24 @@ fn play_stage(
     d: usize,
     out: &mut [i16],
 ) -> usize
-    requires { ⌜ BlockReady r (now sheet) l g path (now left) (now right) d (now out) ⌝ }
-    ensures { λ n. ⌜ BlockPlayed r (now (sheet .entry)) (now (left .entry)) (now (right .entry)) d (now (out .entry)) (now (out .exit)) n ⌝ }
+    requires { ⌜ BlockReady n frames (now sheet) l g path (now left) (now right) d (now out) ⌝ }
+    ensures { λ r. ⌜ BlockPlayed n frames (now (sheet .entry)) (now (left .entry)) (now (right .entry)) d (now (out .entry)) (now (out .exit)) r ⌝ }
 {
-    let m = r.frames as usize;
+    let m = frames as usize;
     let attacks = l.attacks;
     let releases = l.releases;
     let sequence = l.sequence;
     let fade = l.fade;
     let attack = &sheet[attacks..releases];
     let segments = &sheet[sequence..fade];
-    let key = r.key;
+    let key = n.key;
     match key {
         Key::Held => {
-            let stage = attack_stage(attack, r.step, r.rate);
+            let stage = attack_stage(attack, n.step, n.rate);
             play(g, path, stage, attack, segments, left, right, m, d, out)
         }
         Key::Released(u) => {
-            let stage = release_stage(attack, r.step, r.rate, u);
+            let stage = release_stage(attack, n.step, n.rate, u);
             let release = &sheet[releases..sequence];
             play(g, path, stage, release, segments, left, right, m, d, out)
         }
@@ -67,16 +69,17 @@ fn play_stage(
 
 // Fills the whole buffer with the frames that follow the frames filled; answers how many of them aren't over.
 pub fn next_block(
-    r: Request,
+    n: Playing,
+    frames: u32,
     sheet: &[u8],
     l: Layout,
     left: &[i8],
     right: &[i8],
     out: &mut [i16],
 ) -> usize
-    requires { ⌜ (judged (now sheet) ≡ Sound) × (l ≡ layoutOf (readSheet (now sheet))) × (r .places ≡ length (now out)) × (firstHolding (fillRules (readSheet (now sheet)) (length (now left)) (length (now right)) r) ≡ 0) ⌝ }
-    ensures result { λ n. ⌜ n ≡ sounding (framesFrom (frame (readSheet (now (sheet .entry))) (record { left = now (left .entry); right = now (right .entry) }) (r .octave) (r .step) (r .rate) (r .key)) (r .frames) (length (now (out .entry)) / 2)) ⌝ }
-    ensures buffer { λ _. ⌜ now (out .exit) ≡ interleaved (framesFrom (frame (readSheet (now (sheet .entry))) (record { left = now (left .entry); right = now (right .entry) }) (r .octave) (r .step) (r .rate) (r .key)) (r .frames) (length (now (out .entry)) / 2)) ⌝ }
+    requires { ⌜ (judged (now sheet) ≡ Sound) × (l ≡ layoutOf (readSheet (now sheet))) × (firstHolding (fillRules (readSheet (now sheet)) (length (now left)) (length (now right)) n frames (length (now out))) ≡ 0) ⌝ }
+    ensures result { λ r. ⌜ r ≡ sounding (framesFrom (frame (readSheet (now (sheet .entry))) (record { left = now (left .entry); right = now (right .entry) }) n) frames (length (now (out .entry)) / 2)) ⌝ }
+    ensures buffer { λ _. ⌜ now (out .exit) ≡ interleaved (framesFrom (frame (readSheet (now (sheet .entry))) (record { left = now (left .entry); right = now (right .entry) }) n) frames (length (now (out .entry)) / 2)) ⌝ }
 {
     let start = l.sequence;
     let end = l.fade;
@@ -84,15 +87,15 @@ pub fn next_block(
     let sequence = is_there(sheet_sequence(sheet, l));
     let path = path_of(
         sheet_header(sheet),
-        r.octave,
+        n.octave,
         sequence,
         segments,
         left.len(),
     );
-    let g = gains_of(sheet, l, r.octave);
-    let room = 4294967295 - r.frames as usize;
+    let g = gains_of(sheet, l, n.octave);
+    let room = 4294967295 - frames as usize;
     let d = least(out.len() / 2, room);
-    let count = play_stage(r, sheet, l, g, path, left, right, d, out);
+    let count = play_stage(n, frames, sheet, l, g, path, left, right, d, out);
     silence_from(out, 2 * d);
     count
 }

@@ -7,7 +7,7 @@ ghost use mathlib.Core.Path.{_≡_};
 ghost use Prim.Native.Nat.{_<_};
 ghost use lib.IntN.{pos};
 ghost use Rattle.sheet_layout.specs.Members.{pointsIn, Whole};
-ghost use Rattle.note_block.specs.Frame.{startLevel};
+ghost use Rattle.note_frame.specs.Frame.{startLevel};
 ghost use Rattle.note_block.specs.Stages.{isThere, attackIn, attackStage, releaseStage};
 
 pub(crate) fn is_there(sequence: MaybeSequence) -> bool

@@ -1,2 +1,5 @@
--- The meaning of one frame.
+-- The meaning of a note's frames. `Gains` is for the code: no reader of a frame needs it.
+pub mod Shares
 pub mod Frame
+pub mod Frames
+pub mod Gains

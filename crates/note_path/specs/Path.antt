@@ -35,6 +35,11 @@ pathOf none h n k q =
     cond (eqb (hi h) 0) (samplesPath n q)
     (loopPath (octaveStart h k) (h .«one_shot_hi_samples» * 2 ^ k) (h .«repeat_hi_samples» * 2 ^ k) q)
 
+-- the segments of a sequence; without one there are none
+abbrev pub segmentsOf : Option (List SeqnSegment) → List SeqnSegment
+segmentsOf none = []
+segmentsOf (some segments) = segments
+
 -- the length of segments joined, their offsets times `scale`
 unfoldable pub joinedLength : ℕ → List SeqnSegment → ℕ
 joinedLength scale [] = 0

@@ -28,10 +28,10 @@ use Rattle.sheet_layout.specs.Layout.{layoutOf}
 use Rattle.sheet_layout.specs.Members.{between, segmentsIn, Whole}
 use Rattle.sheet_layout.specs.declared.Layout.{Layout}
 use Rattle.sheet_layout.proofs.PointLaws.{places, sequence-there, no-sequence, sequence-whole}
-use Rattle.note_path.specs.Path.{joinedLength}
+use Rattle.note_path.specs.Path.{segmentsOf, joinedLength}
 use Rattle.note_path.proofs.LengthLaws.{scaled-length, take-all-segments}
 use Rattle.note_rules.specs.Answers.{besideOneShotBy, countBy, fadeMissesBy}
-use Rattle.note_rules.specs.Rules.{segmentsOf, besideOneShot, fadeMisses}
+use Rattle.note_rules.specs.Rules.{besideOneShot, fadeMisses}
 
 -- ---- the bytes of a sequence
 

@@ -1,4 +1,4 @@
--- The same rules of what the code knows of a sequence and a fade.
+-- The rules of a sequence by what the code knows of it and of a fade. No reader of the rules needs it.
 use Prim.Native.Nat.{ℕ}
 use mathlib.Core.Bool.{Bool, false, not}
 use lib.Dec.{eqb, ltb}

@@ -21,18 +21,18 @@ use Rattle.note_path.specs.Run.{placeOf, Reached}
 use Rattle.note_path.specs.declared.run.Path.{Path}
 use Rattle.note_path.specs.declared.run.Run.{Run}
 use Rattle.note_path.proofs.RunLaws.{place-is}
-use Rattle.note_frame.specs.Frame.{silent, frameOf}
-use Rattle.note_frame.specs.declared.Frame.{Frame}
-use Rattle.note_frame.specs.declared.Gains.{Gains}
-use Rattle.note_frame.proofs.FrameLaws.{no-place, no-level}
-use Rattle.note_stage.specs.Frames.{stepOf, msSince}
+use Rattle.note_frame.specs.Frame.{silent, stepOf, msSince}
+use Rattle.note_frame.specs.Gains.{frameWith}
+use Rattle.note_frame.specs.declared.chain.Frame.{Frame}
+use Rattle.note_frame.specs.declared.chain.Gains.{Gains}
+use Rattle.note_frame.proofs.ChainLaws.{no-place, no-level}
 use Rattle.note_stage.specs.Block.{runPlace, levelNow, stageLevel, stageFrame}
 use Rattle.note_stage.specs.declared.Stage.{Stage}
 
 -- ---- a stage
 
 pub stage-frame-is : (g : Gains) (path : Path) (s : Stage) (points segments : List ℕ) (left right : List ℤ) (p : ℕ)
-    → stageFrame g path s points segments left right p ≡ frameOf g left right (stepOf (s .step) p) (placeOf path segments (stepOf (s .step) p)) (stageLevel points (s .level) (s .ends) (msSince (s .rate) (s .since) p))
+    → stageFrame g path s points segments left right p ≡ frameWith g left right (stepOf (s .step) p) (placeOf path segments (stepOf (s .step) p)) (stageLevel points (s .level) (s .ends) (msSince (s .rate) (s .since) p))
 unfolding stageFrame
 stage-frame-is g path s points segments left right p = refl
 
@@ -48,14 +48,14 @@ module _ (points : List ℕ) (start : ℤ) (ends : Bool) (t : ℕ) where
 -- ---- a frame by the cursors, from the tests that lead to it
 
 module _ (g : Gains) (left right : List ℤ) (q : ℕ) (r : Run) (ends : Bool) (e : EnvelopeCursor) (f : Frame) where
-  pub frame-past : f ≡ silent → r .until ≤ q → f ≡ frameOf g left right q (runPlace r q) (levelNow ends e)
+  pub frame-past : f ≡ silent → r .until ≤ q → f ≡ frameWith g left right q (runPlace r q) (levelNow ends e)
   frame-past is h = rw (is, le-ltb q (r .until) h) (sym (no-place g left right q (levelNow ends e)))
 
-  pub frame-ended : f ≡ silent → q < r .until → ends ≡ true → e .ended ≡ true → f ≡ frameOf g left right q (runPlace r q) (levelNow ends e)
+  pub frame-ended : f ≡ silent → q < r .until → ends ≡ true → e .ended ≡ true → f ≡ frameWith g left right q (runPlace r q) (levelNow ends e)
   frame-ended is h a b = rw (is, lt-ltb q (r .until) h, a, b) (sym (no-level g left right q (r .start + (q - r .from))))
 
-  pub frame-on : f ≡ frameOf g left right q (some (r .start + (q - r .from))) (some (e .now)) → q < r .until → ((ends ≡ true) × (e .ended ≡ false)) ⊎ (ends ≡ false)
-      → f ≡ frameOf g left right q (runPlace r q) (levelNow ends e)
+  pub frame-on : f ≡ frameWith g left right q (some (r .start + (q - r .from))) (some (e .now)) → q < r .until → ((ends ≡ true) × (e .ended ≡ false)) ⊎ (ends ≡ false)
+      → f ≡ frameWith g left right q (runPlace r q) (levelNow ends e)
   frame-on is h came = rw (lt-ltb q (r .until) h, not-over came) is
     where
       not-over : ((ends ≡ true) × (e .ended ≡ false)) ⊎ (ends ≡ false) → (ends && e .ended) ≡ false
@@ -70,7 +70,7 @@ level-is points start t ends e f = rw (f .now-is, f .ended-is)
 
 -- frame p, whose step is q and whose time in the stage is t
 pub frame-is : (g : Gains) (path : Path) (s : Stage) (points segments : List ℕ) (left right : List ℤ) (p q t : ℕ) (r : Run) (e : EnvelopeCursor) (f : Frame)
-    → f ≡ frameOf g left right q (runPlace r q) (levelNow (s .ends) e)
+    → f ≡ frameWith g left right q (runPlace r q) (levelNow (s .ends) e)
     → q ≡ stepOf (s .step) p → t ≡ msSince (s .rate) (s .since) p → Reached path segments q r → Follows points (s .level) t e
     → f ≡ stageFrame g path s points segments left right p
 frame-is g path s points segments left right p q t r e f is eq et h u =

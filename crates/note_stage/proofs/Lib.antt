@@ -1,4 +1,3 @@
--- Laws of frames in order, of a frame of a stage, and of a block that is being written.
-pub mod FramesLaws
+-- Laws of a frame of a stage, and of a block that is being written.
 pub mod BlockLaws
 pub mod PlayLaws

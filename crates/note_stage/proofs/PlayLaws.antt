@@ -23,12 +23,13 @@ use Rattle.note_path.specs.Run.{Good, Reached}
 use Rattle.note_path.specs.declared.run.Path.{Path}
 use Rattle.note_path.specs.declared.run.Run.{Run}
 use Rattle.note_path.proofs.RunLaws.{reached-good, reached-later, reached-here}
-use Rattle.note_frame.specs.declared.Frame.{Frame}
-use Rattle.note_frame.specs.declared.Gains.{Gains}
-use Rattle.note_stage.specs.Frames.{stepOf, msSince, framesFrom, interleaved, sounding}
+use Rattle.note_frame.specs.declared.chain.Frame.{Frame}
+use Rattle.note_frame.specs.declared.chain.Gains.{Gains}
+use Rattle.note_frame.specs.Frame.{stepOf, msSince}
+use Rattle.note_frame.specs.Frames.{framesFrom, interleaved, sounding}
 use Rattle.note_stage.specs.Block.{Suits, Playable, Played}
 use Rattle.note_stage.specs.declared.Stage.{Stage}
-use Rattle.note_stage.proofs.FramesLaws.{frames-length, interleaved-length, interleaved-none, interleaved-next, sounding-within, sounding-none, sounding-next}
+use Rattle.note_frame.proofs.FramesLaws.{frames-length, interleaved-length, interleaved-none, interleaved-next, sounding-within, sounding-none, sounding-next}
 
 -- ---- the frames so far
 
@@ -139,8 +140,8 @@ module _ {g : Gains} {path : Path} {s : Stage} {points segments : List ℕ} {lef
   pub suits : (e e′ : EnvelopeCursor) (t q : ℕ) (r : Run) → Moved points e t e′ → Reached path segments q r → Suits g e′ r q left right
   suits e e′ t q r v h =
       record {
-        held = k .held;
-        level-held = moved-small v;
+        bounded = k .bounded;
+        level-small = moved-small v;
         begun = reached-later h q (omega arith);
         in-left = rw (k .samples-are) at (reached-good h .within);
         in-right = k .sides-are;

@@ -1,4 +1,5 @@
--- A block within one stage of the envelope: what the cursors say of a frame, and what a block asks and gives.
+-- What the code carries through a block within one stage of the envelope, what a block asks, and what it gives. No reader of the
+-- definition of a frame needs it.
 use Prim.Native.Nat.{ℕ, _+_, _-_, _*_, _≤_, _<_, _^_}
 use mathlib.Core.Bool.{Bool, true, cond, _&&_}
 use mathlib.Core.List.{List, _++_}
@@ -14,10 +15,11 @@ use Rattle.note_envelope.specs.declared.EnvelopeCursor.{EnvelopeCursor}
 use Rattle.note_path.specs.Run.{placeOf, Sane}
 use Rattle.note_path.specs.declared.run.Path.{Path}
 use Rattle.note_path.specs.declared.run.Run.{Run}
-use Rattle.note_frame.specs.Frame.{frameOf, Held}
-use Rattle.note_frame.specs.declared.Gains.{Gains}
-use Rattle.note_frame.specs.declared.Frame.{Frame}
-use Rattle.note_stage.specs.Frames.{stepOf, msSince, framesFrom, interleaved, sounding}
+use Rattle.note_frame.specs.Frame.{stepOf, msSince}
+use Rattle.note_frame.specs.Frames.{framesFrom, interleaved, sounding}
+use Rattle.note_frame.specs.Gains.{frameWith, Bounded}
+use Rattle.note_frame.specs.declared.chain.Gains.{Gains}
+use Rattle.note_frame.specs.declared.chain.Frame.{Frame}
 use Rattle.note_stage.specs.declared.Stage.{Stage}
 
 -- the place of step q by the run in hand
@@ -30,8 +32,8 @@ levelNow ends e = cond (ends && e .ended) none (some (e .now))
 
 -- the run lies within the samples and, where that matters, within the path's length
 pub record Suits (g : Gains) (e : EnvelopeCursor) (r : Run) (q : ℕ) (left right : List ℤ) : Type 0 where
-  pub held : Held g
-  pub level-held : e .now ≤ 65536
+  pub bounded : Bounded g
+  pub level-small : e .now ≤ 65536
   pub begun : r .from ≤ q
   pub in-left : r .start + (r .until - r .from) ≤ length left
   pub in-right : g .stereo ≡ true → length left ≤ length right
@@ -44,11 +46,11 @@ stageLevel points start ends t = cond (ends && leb (totalDuration (pointsIn poin
 -- frame p of a stage
 unfoldable pub stageFrame : Gains → Path → Stage → List ℕ → List ℕ → List ℤ → List ℤ → ℕ → Frame
 stageFrame g path s points segments left right p =
-    frameOf g left right (stepOf (s .step) p) (placeOf path segments (stepOf (s .step) p)) (stageLevel points (s .level) (s .ends) (msSince (s .rate) (s .since) p))
+    frameWith g left right (stepOf (s .step) p) (placeOf path segments (stepOf (s .step) p)) (stageLevel points (s .level) (s .ends) (msSince (s .rate) (s .since) p))
 
 -- what a block of d frames from frame m on asks
 pub record Playable (g : Gains) (path : Path) (s : Stage) (points segments : List ℕ) (left right : List ℤ) (m d : ℕ) (out : List ℤ) : Type 0 where
-  pub held : Held g
+  pub bounded : Bounded g
   pub sane : Sane path segments
   pub points-whole : Whole 6 6 points
   pub samples-are : path .samples ≡ length left

@@ -1,3 +1,2 @@
--- The meaning of a block of frames.
-pub mod Frames
+-- What the code of a block asks and gives.
 pub mod Block

@@ -13,7 +13,7 @@ use note_path::run_to;
 ghost use mathlib.Core.Path.{_≡_};
 ghost use Prim.Native.Nat.{_+_, _<_};
 ghost use lib.ListN.{length, set};
-ghost use Rattle.note_frame.specs.Frame.{frameOf};
+ghost use Rattle.note_frame.specs.Gains.{frameWith};
 ghost use Rattle.note_stage.specs.Block.{runPlace, levelNow, Suits, stageFrame, Playable, Played};
 
 // The stage of the envelope that a block lies in, the attack or the release: the note's step and rate, the frame that the stage counts
@@ -46,7 +46,7 @@ fn frame_here(
     right: &[i8],
 ) -> Frame
     requires { ⌜ Suits g e r q (now left) (now right) ⌝ }
-    ensures { λ f. ⌜ f ≡ frameOf g (now (left .entry)) (now (right .entry)) q (runPlace r q) (levelNow ends e) ⌝ }
+    ensures { λ f. ⌜ f ≡ frameWith g (now (left .entry)) (now (right .entry)) q (runPlace r q) (levelNow ends e) ⌝ }
 {
     if r.until <= q {
         return over();

@@ -1,8 +1,8 @@
 -- Notes as they cross to C: whether one is released, and the key-up's frame, which is 0 while it is held.
 use Prim.Native.Nat.{ℕ}
 use mathlib.Core.Bool.{Bool, true, false, cond}
-use Rattle.note_rules.specs.declared.state.Key.{Key}
-use Rattle.note_rules.specs.declared.state.Key.the-variants.{Held, Released}
+use Rattle.note_frame.specs.declared.playing.Key.{Key}
+use Rattle.note_frame.specs.declared.playing.Key.the-variants.{Held, Released}
 use Rattle.note.specs.declared.Note.{Note}
 use Rattle.note.specs.declared.Answer.{Answer}
 use Rattle.note.specs.declared.Answer.the-variants.{Sounding, Refused}

@@ -2,7 +2,7 @@
 -- Assumes nothing.
 use mathlib.Core.Path.{sym, ap}
 use borrow.Author.Needs.{needs}
-use Rattle.note_rules.specs.declared.state.Key.{Key}
+use Rattle.note_frame.specs.declared.playing.Key.{Key}
 use Rattle.note.specs.Note.{keyAfter}
 use Rattle.note.proofs.released_at.Statement.{statement}
 use Rattle.note.proofs.released_at.Tie as tie

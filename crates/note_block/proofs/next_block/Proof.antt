@@ -12,7 +12,7 @@ use Rattle.body_read.specs.Sides.{Sides}
 use Rattle.note_block.proofs.SheetLaws.{places-are}
 use Rattle.note_block.proofs.AcceptedLaws.{even-places}
 use Rattle.note_block.proofs.BeginLaws.{path-asks, gains-ask, block-ready}
-use Rattle.note_block.proofs.FrameLaws.{frame-last}
+use Rattle.note_frame.proofs.FrameLaws.{frame-last}
 use Rattle.note_block.proofs.WholeLaws.{whole-count, whole-buffer}
 use Rattle.note_block.proofs.next_block.Statement.{statement}
 use Rattle.note_block.proofs.next_block.Tie as tie
@@ -53,17 +53,14 @@ path-of-requires : tie.Need-path-of-requires
 path-of-requires c κs =
     let k = c .before .before .before .before in
     let s = start k in
-    path-asks (s .args .r) (s .args .sheet .now) (s .args .l) (s .args .left .now) (s .args .right .now) (bytes k) (s .pre .0) (s .pre .1) (s .pre .3) (small k) _ (c .sheet-header .ensures)
+    path-asks (s .args .n) (s .args .frames) (length (s .args .out .now)) (s .args .sheet .now) (s .args .l) (s .args .left .now) (s .args .right .now) (bytes k) (s .pre .0) (s .pre .1) (s .pre .2) (small k) _ (c .sheet-header .ensures)
 
 gains-of-requires : tie.Need-gains-of-requires
 gains-of-requires c κs =
     let k = c .before .before .before .before .before in
     let s = start k in
-    let g = gains-ask (s .args .r) (s .args .sheet .now) (s .args .l) (s .args .left .now) (s .args .right .now) (bytes k) (s .pre .0) (s .pre .1) (s .pre .3) (small k) in
+    let g = gains-ask (s .args .n) (s .args .frames) (length (s .args .out .now)) (s .args .sheet .now) (s .args .l) (s .args .left .now) (s .args .right .now) (bytes k) (s .pre .0) (s .pre .1) (s .pre .2) (small k) in
     (s .pre .0, s .pre .1, g .0, g .1)
-
-cast-room : tie.Need-cast-room
-cast-room c = search needs
 
 sub-room : tie.Need-sub-room
 sub-room c = search needs
@@ -73,13 +70,13 @@ least-requires c κs = search needs
 
 play-stage-requires : tie.Need-play-stage-requires
 play-stage-requires c κs =
-    let p = c .before .before .before .before in
+    let p = c .before .before .before in
     let k = p .before .before .before .before .before in
     let s = start k in
-    let counted : s .args .r .frames ≤ 4294967295 = omega (arith, c .before .before .struct-known .given) in
-    block-ready (s .args .r) (s .args .sheet .now) (s .args .l) (s .args .left .now) (s .args .right .now) (bytes k) (s .pre .0) (s .pre .1) (s .pre .3) (small k)
+    let counted : s .args .frames ≤ 4294967295 = omega (arith, s .fits .frames) in
+    block-ready (s .args .n) (s .args .frames) (length (s .args .out .now)) (s .args .sheet .now) (s .args .l) (s .args .left .now) (s .args .right .now) (bytes k) (s .pre .0) (s .pre .1) (s .pre .2) (small k)
     _ (p .before .sheet-header .ensures) _ _ _ (p .before .before .before .sheet-sequence .ensures) (p .before .before .is-there .ensures) (p .path-of .ensures)
-    _ _ _ (c .before .before .before .gains-of .ensures) counted (c .before .least .ensures)
+    _ _ _ (c .before .before .gains-of .ensures) counted (c .before .least .ensures)
 
 mul-silence-from : tie.Need-mul-silence-from
 mul-silence-from c = search needs
@@ -94,15 +91,15 @@ returns : tie.Need-returns
 returns c =
     let p = c .before .before .before .before in
     let n = p .before .before in
-    let k = n .before .before .before .before .before .before .before .before in
+    let k = n .before .before .before .before .before .before .before in
     let s = start k in
     let a = s .args in
-    let counted : a .r .frames ≤ 4294967295 = omega (arith, n .before .struct-known .given) in
-    let even : length (a .out .now) % 2 ≡ 0 = omega (arith, s .pre .2, even-places (readSheet (a .sheet .now)) (length (a .left .now)) (length (a .right .now)) (a .r) (s .pre .3)) in
+    let counted : a .frames ≤ 4294967295 = omega (arith, s .fits .frames) in
+    let even : length (a .out .now) % 2 ≡ 0 = even-places (readSheet (a .sheet .now)) (length (a .left .now)) (length (a .right .now)) (a .n) (a .frames) (length (a .out .now)) (s .pre .2) in
     let sides : Sides = record { left = a .left .now; right = a .right .now } in
-    let last = frame-last (readSheet (a .sheet .now)) sides (a .r .octave) (a .r .step) (a .r .rate) (a .r .key) in (
+    let last = frame-last (readSheet (a .sheet .now)) sides (a .n) in (
       whole-count _ _ _ _ _ _ last counted even (n .least .ensures) (p .play-stage .ensures),
-      whole-buffer _ _ _ _ _ _ last counted even (n .least .ensures) (p .play-stage .ensures) _ (p .play-stage .kept .1 .1 .1 .1 .1 .1 .1 .1 .0) (c .before .silence-from .ensures),
+      whole-buffer _ _ _ _ _ _ last counted even (n .least .ensures) (p .play-stage .ensures) _ (p .play-stage .kept .1 .1 .1 .1 .1 .1 .1 .1 .1 .0) (c .before .silence-from .ensures),
     )
 
 pub next-block-spec : {M : Type 1} → statement M
@@ -117,7 +114,6 @@ next-block-spec =
     sheet-header-requires
     path-of-requires
     gains-of-requires
-    cast-room
     sub-room
     least-requires
     play-stage-requires

@@ -22,26 +22,23 @@ module _ (c : tie.After-shared-slice-known) where
   places : let l = start .args .l in (l .attacks ≤ l .releases) × (l .releases ≤ l .sequence) × (l .sequence ≤ l .fade) × (l .fade ≤ length (start .args .sheet .now))
   places = places-are (start .args .sheet .now) bytes (start .pre .sound) (start .args .l) (start .pre .layout-is)
 
-cast-m : tie.Need-cast-m
-cast-m c = search needs
-
 sub-attack : tie.Need-sub-attack
-sub-attack c = places (c .before) .0
+sub-attack c = places c .0
 
 part-attack-start : tie.Need-part-attack-start
-part-attack-start c = let p = places (c .before) in omega arith
+part-attack-start c = let p = places c in omega arith
 
 part-attack-end : tie.Need-part-attack-end
-part-attack-end c = let p = places (c .before) in omega arith
+part-attack-end c = let p = places c in omega arith
 
 sub-segments : tie.Need-sub-segments
-sub-segments c = places (c .before .before) .2
+sub-segments c = places (c .before) .2
 
 part-segments-start : tie.Need-part-segments-start
-part-segments-start c = let p = places (c .before .before) in omega arith
+part-segments-start c = let p = places (c .before) in omega arith
 
 part-segments-end : tie.Need-part-segments-end
-part-segments-end c = let p = places (c .before .before) in omega arith
+part-segments-end c = let p = places (c .before) in omega arith
 
 enum-told : tie.Need-enum-told
 enum-told c = search needs
@@ -51,53 +48,52 @@ attack-stage-requires c κs = search needs
 
 play-requires : tie.Need-play-requires
 play-requires c κs =
-    let k = c .before .before .before .before .before .before .before in
-    held-asks _ _ _ _ _ _ _ _ _ (start k .pre) (bytes k) _ (c .before .attack-stage .ensures)
+    let k = c .before .before .before .before .before .before in
+    held-asks _ _ _ _ _ _ _ _ _ _ (start k .pre) (bytes k) _ (c .before .attack-stage .ensures)
 
 enum-known-key : tie.Need-enum-known-key
 enum-known-key c = search needs
 
 release-stage-requires : tie.Need-release-stage-requires
 release-stage-requires c κs =
-    let k = c .before .before .before .before .before .before in
+    let k = c .before .before .before .before .before in
     let s = start k in
     (s .pre .rate-some, attacks-are (s .args .sheet .now) (bytes k) (s .pre .sound) (s .args .l) (s .pre .layout-is) .1)
 
 sub-release : tie.Need-sub-release
-sub-release c = places (c .before .before .before .before .before .before .before) .1
+sub-release c = places (c .before .before .before .before .before .before) .1
 
 part-release-start : tie.Need-part-release-start
-part-release-start c = let p = places (c .before .before .before .before .before .before .before) in omega arith
+part-release-start c = let p = places (c .before .before .before .before .before .before) in omega arith
 
 part-release-end : tie.Need-part-release-end
-part-release-end c = let p = places (c .before .before .before .before .before .before .before) in omega arith
+part-release-end c = let p = places (c .before .before .before .before .before .before) in omega arith
 
 play-requires-2 : tie.Need-play-requires-2
 play-requires-2 c κs =
-    let k = c .before .before .before .before .before .before .before .before .before in
-    released-asks _ _ _ _ _ _ _ _ _ (start k .pre) (bytes k) _ (c .before .before .before .before .key .given .1) _ (c .before .before .release-stage .ensures)
+    let k = c .before .before .before .before .before .before .before .before in
+    released-asks _ _ _ _ _ _ _ _ _ _ (start k .pre) (bytes k) _ (c .before .before .before .before .key .given .1) _ (c .before .before .release-stage .ensures)
 
 same-length : tie.Need-same-length
 same-length c = search needs
 
 returns : tie.Need-returns
 returns c =
-    let k = c .before .before .before .before .before .before .before .before .before in
-    held-plays _ _ _ _ _ _ _ _ _ (start k .pre) (bytes k) _ (c .before .before .before .attack-stage .ensures) _ _ (c .before .before .before .before .enum-told .given .1) (c .before .play .ensures)
+    let k = c .before .before .before .before .before .before .before .before in
+    held-plays _ _ _ _ _ _ _ _ _ _ (start k .pre) (bytes k) _ (c .before .before .before .attack-stage .ensures) _ _ (c .before .before .before .before .enum-told .given .1) (c .before .play .ensures)
 
 same-length-2 : tie.Need-same-length-2
 same-length-2 c = search needs
 
 returns-2 : tie.Need-returns-2
 returns-2 c =
-    let k = c .before .before .before .before .before .before .before .before .before .before .before in
-    released-plays _ _ _ _ _ _ _ _ _ (start k .pre) (bytes k) _ (c .before .before .before .before .before .before .key .given .1) _ (c .before .before .before .before .release-stage .ensures) _ _ (c .before .play2 .ensures)
+    let k = c .before .before .before .before .before .before .before .before .before .before in
+    released-plays _ _ _ _ _ _ _ _ _ _ (start k .pre) (bytes k) _ (c .before .before .before .before .before .before .key .given .1) _ (c .before .before .before .before .release-stage .ensures) _ _ (c .before .play2 .ensures)
 
 pub play-stage-spec : {M : Type 1} → statement M
 play-stage-spec =
     tie.close
     (tie.spec
-    cast-m
     sub-attack
     part-attack-start
     part-attack-end

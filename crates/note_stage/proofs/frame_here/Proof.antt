@@ -33,7 +33,7 @@ frame-at-requires : tie.Need-frame-at-requires
 frame-at-requires c κs =
     let k = c .before .before .before .before .before .pre in
     let h = c .before .before .before .if1 .left in
-    (record { held = k .held; level-held = k .level-held; on-path = λ f. k .on-path f h }, omega arith, λ two. omega (arith, k .in-right two))
+    (record { bounded = k .bounded; level-small = k .level-small; on-path = λ f. k .on-path f h }, omega arith, λ two. omega (arith, k .in-right two))
 
 returns-3 : tie.Need-returns-3
 returns-3 c =

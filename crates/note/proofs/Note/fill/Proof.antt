@@ -1,15 +1,27 @@
 -- `note::Note::fill` meets its contract: the sheet's verdict decides.
 -- Assumes nothing.
-use mathlib.Core.Path.{sym, ap, _∙_}
+use mathlib.Core.List.{List}
+use mathlib.Core.Path.{_≡_, sym, ap, _∙_}
 use borrow.Author.Needs.{needs}
 use lib.ListN.{length}
+use Rattle.refusal.specs.Outcome.{Outcome}
 use Rattle.sheet.specs.Judge.{ifSound}
 use Rattle.sheet.specs.Read.{readSheet}
 use Rattle.sheet.specs.declared.judge.Judged.{Judged}
-use Rattle.note.specs.Note.{requestOf}
-use Rattle.note.specs.Fill.{fillVoice, answerOf, noteAfter, blockAfter}
+use Rattle.note_frame.specs.declared.chain.Frame.{Frame}
+use Rattle.note.specs.Fill.{FillResult, fillVoice, resultOf}
 use Rattle.note.proofs.Note.fill.Statement.{statement}
 use Rattle.note.proofs.Note.fill.Tie as tie
+
+-- what a fill of a sound sheet gives
+abbrev sound-block : tie.Start → Outcome (List Frame)
+sound-block s =
+    let a = s .args in
+    fillVoice (readSheet (a .sheet .now)) (record { left = a .left .now; right = a .right .now }) (a .self .playing) (a .self .frames) (length (a .out .now))
+
+-- and what is left, by the verdict
+abbrev left-by : tie.Start → Judged → FillResult
+left-by s j = resultOf (ifSound j (sound-block s)) (s .args .self) (s .args .out .now)
 
 judge-sheet-requires : tie.Need-judge-sheet-requires
 judge-sheet-requires c κs = search needs
@@ -26,10 +38,9 @@ fill-sound-requires c κs = sym (c .before .before .before .judge-sheet .ensures
 returns : tie.Need-returns
 returns c =
     let e = c .before in
-    let a = e .before .before .before .before .args in
-    let refused = sym (e .before .before .judge-sheet .ensures) ∙ e .number .given .1 in
-    let next = fillVoice (readSheet (a .sheet .now)) (record { left = a .left .now; right = a .right .now }) (requestOf (a .self) (length (a .out .now))) in
-    (sym (ap (λ (j : Judged). answerOf (ifSound j next)) refused), (sym (ap (λ (j : Judged). noteAfter (ifSound j next) (a .self)) refused), sym (ap (λ (j : Judged). blockAfter (ifSound j next) (a .out .now)) refused)))
+    let s = e .before .before .before .before in
+    let same = ap (left-by s) (sym (sym (e .before .before .judge-sheet .ensures) ∙ e .number .given .1)) in
+    (ap (λ (x : FillResult). x .answer) same, (ap (λ (x : FillResult). x .note) same, ap (λ (x : FillResult). x .buffer) same))
 
 same-length : tie.Need-same-length
 same-length c = search needs
@@ -38,10 +49,10 @@ returns-2 : tie.Need-returns-2
 returns-2 c =
     let f = c .before in
     let e = f .before .before in
-    let a = e .before .before .before .before .args in
-    let sound = sym (e .before .before .judge-sheet .ensures) ∙ e .enum-told .given .1 in
-    let next = fillVoice (readSheet (a .sheet .now)) (record { left = a .left .now; right = a .right .now }) (requestOf (a .self) (length (a .out .now))) in
-    (f .fill-sound .ensures .0 ∙ sym (ap (λ (j : Judged). answerOf (ifSound j next)) sound), (f .fill-sound .ensures .1 .0 ∙ sym (ap (λ (j : Judged). noteAfter (ifSound j next) (a .self)) sound), f .fill-sound .ensures .1 .1 ∙ sym (ap (λ (j : Judged). blockAfter (ifSound j next) (a .out .now)) sound)))
+    let s = e .before .before .before .before in
+    let same = ap (left-by s) (sym (sym (e .before .before .judge-sheet .ensures) ∙ e .enum-told .given .1)) in
+    let done = f .fill-sound .ensures in
+    (done .0 ∙ ap (λ (x : FillResult). x .answer) same, (done .1 .0 ∙ ap (λ (x : FillResult). x .note) same, done .1 .1 ∙ ap (λ (x : FillResult). x .buffer) same))
 
 pub fill-spec : {M : Type 1} → statement M
 fill-spec =

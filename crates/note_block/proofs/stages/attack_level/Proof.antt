@@ -11,8 +11,7 @@ use Rattle.laws.proofs.Signed.{zarith, back}
 use Rattle.sheet_layout.specs.Members.{pointsIn}
 use Rattle.note_envelope.specs.Cursor.{Follows}
 use Rattle.note_envelope.proofs.CursorLaws.{level-small}
-use Rattle.note_stage.specs.Frames.{msSince}
-use Rattle.note_block.specs.Frame.{startLevel}
+use Rattle.note_frame.specs.Frame.{msSince, startLevel}
 use Rattle.note_block.proofs.stages.attack_level.Statement.{statement}
 use Rattle.note_block.proofs.stages.attack_level.Tie as tie
 

@@ -1,0 +1,2 @@
+-- Laws of the voice's own rules.
+pub mod VoiceRuleLaws

@@ -1,0 +1,2 @@
+-- The voice's own rules.
+pub mod Rules
