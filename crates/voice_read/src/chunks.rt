@@ -7,6 +7,7 @@ use form::Place;
 use form::find;
 use form::first_bad;
 use header::VoiceHeader;
+use header::read_header;
 use sheet_read::put_sheet;
 use sheet_read::sheet_length;
 ghost use mathlib.Core.Path.{_≡_};
@@ -55,7 +56,7 @@ fn header_of(form: &[u8]) -> VoiceHeader
     ensures { λ r. ⌜ r ≡ formVoice (itemsFrom (now (form .entry)) 12) .header ⌝ }
 {
     match find(form, form::VHDR) {
-        Place::At(start, _) => VoiceHeader::read(form, start),
+        Place::At(start, _) => read_header(form, start),
         Place::Absent => VoiceHeader {
             one_shot_hi_samples: 0,
             repeat_hi_samples: 0,

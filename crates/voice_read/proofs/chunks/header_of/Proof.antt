@@ -21,8 +21,8 @@ find-requires c κs = search needs
 enum-known-start : tie.Need-enum-known-start
 enum-known-start c = search needs
 
-read-requires : tie.Need-read-requires
-read-requires c κs =
+read-header-requires : tie.Need-read-header-requires
+read-header-requires c κs =
     let w = found c in
     omega (arith, w .inside, header-long w (c .before .before .before .before .before .pre .sound))
 
@@ -30,10 +30,10 @@ enum-told : tie.Need-enum-told
 enum-told c = search needs
 
 returns : tie.Need-returns
-returns c = c .read .ensures ∙ header-at (found (c .before)) (c .before .before .before .before .before .before .pre .sound)
+returns c = c .read-header .ensures ∙ header-at (found (c .before)) (c .before .before .before .before .before .before .pre .sound)
 
 returns-2 : tie.Need-returns-2
 returns-2 c = absurd (header-there (rw (c .enum-told .given .1) at (c .before .before .find .ensures)) (c .before .before .before .before .pre))
 
 pub header-of-spec : {M : Type 1} → statement M
-header-of-spec = tie.close (tie.spec find-requires enum-known-start read-requires enum-told returns returns-2)
+header-of-spec = tie.close (tie.spec find-requires enum-known-start read-header-requires enum-told returns returns-2)
