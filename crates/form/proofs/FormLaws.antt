@@ -1,7 +1,7 @@
 -- The laws of the kinds, of the first bad chunk and of the chunks of a name.
 --     kind-name, kind-none                            a name's kind
 --     size-least, size-unit, channel-value            what a right payload has
---     first-hit .. all-miss, bad-here, bad-later      what one answer of the walk does to each
+--     all-hit, all-miss, bad-here, bad-later          what one answer of the walk does to each
 --     sound-at, never-refused                         the walk of a FORM that has no bad chunk
 --     first-sound, all-sound                          its chunks of a name are right
 -- Assumes nothing.
@@ -101,14 +101,6 @@ wrong-none came id b = go came (lengthWrong (kindOf id) (length b)) (channelWron
 -- ---- one answer of the walk
 
 module _ (id : ℕ) {f : List ℕ} {at i start n next : ℕ} (w : Whole f at i start n next) where
-  pub first-hit : i ≡ id → firstOf id (itemsFrom f at) ≡ some (take n (drop start f))
-  unfolding firstOf
-  first-hit e = rw (w .items, eq-eqb i id e)
-
-  pub first-miss : (i ≡ id → ⊥) → firstOf id (itemsFrom f at) ≡ firstOf id (itemsFrom f next)
-  unfolding firstOf
-  first-miss h = rw (w .items, ne-eqb i id h)
-
   pub all-hit : i ≡ id → allOf id (itemsFrom f at) ≡ take n (drop start f) ∷ allOf id (itemsFrom f next)
   unfolding allOf
   all-hit e = rw (w .items, eq-eqb i id e)

@@ -14,11 +14,11 @@ use Rattle.field.proofs.BigEndianLaws.{bytes-take, bytes-drop}
 use Rattle.small_chunks.specs.Channel.{channelOf, channelValueOf, parsedChannel}
 use Rattle.small_chunks.specs.declared.channel.ParsedChannel.{ParsedChannel}
 use Rattle.chunk.specs.Chunk.{itemsFrom}
-use Rattle.form.specs.Find.{Found}
 use Rattle.form.specs.FirstBad.{firstBad}
 use Rattle.form.specs.Kind.{names, kindOf, least}
 use Rattle.form.specs.Names.{chan, seqn}
 use Rattle.form.specs.declared.place.Place.the-variants.{At}
+use Rattle.form.proofs.FindLaws.{Found}
 use Rattle.form.proofs.FormLaws.{kind-name, size-least, first-sound}
 use Rattle.sheet.specs.Flat.{ifThere}
 use Rattle.sheet.specs.Read.{knownChannel}
