@@ -1,4 +1,12 @@
 // The first bad chunk of a FORM.
+use crate::names::ATAK;
+use crate::names::BODY;
+use crate::names::CHAN;
+use crate::names::FADE;
+use crate::names::PAN;
+use crate::names::RLSE;
+use crate::names::SEQN;
+use crate::names::VHDR;
 use chunk::ChunkStep;
 use chunk::chunk_at;
 use field::read32;
@@ -14,14 +22,14 @@ fn kind_of(id: u32) -> usize
     ensures { λ r. ⌜ (r ≡ kindOf id) × (r < 9) ⌝ }
 {
     match id {
-        0x56484452 => 1,
-        0x4348414E => 2,
-        0x50414E20 => 3,
-        0x5345514E => 4,
-        0x46414445 => 5,
-        0x424F4459 => 6,
-        0x4154414B => 7,
-        0x524C5345 => 8,
+        VHDR => 1,
+        CHAN => 2,
+        PAN => 3,
+        SEQN => 4,
+        FADE => 5,
+        BODY => 6,
+        ATAK => 7,
+        RLSE => 8,
         _ => 0,
     }
 }
