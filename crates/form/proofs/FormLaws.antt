@@ -1,6 +1,6 @@
 -- The laws of the kinds, of the first bad chunk and of the chunks of a name.
 --     kind-name, kind-none                            a name's kind
---     size-least, size-unit, channel-value            what a right payload has
+--     size-least, size-unit                           what a right payload has
 --     all-hit, all-miss, bad-here, bad-later          what one answer of the walk does to each
 --     sound-at, never-refused                         the walk of a FORM that has no bad chunk
 --     first-sound, all-sound                          its chunks of a name are right
@@ -9,9 +9,8 @@ use Prim.Native.Nat.{ℕ, zero, suc, _+_, _-_, _%_, _≤_, _<_}
 use borrow.Author.Tests.{eq-eqb, ne-eqb, eqb-true, ltb-true, ltb-false, not-false}
 use lib.Dec.{eqb, ltb, ltb→lt, eqb→eq}
 use lib.ListN.{length, getD, take, drop, set}
-use mathlib.Core.Bool.{Bool, true, false, cond, not, _||_}
+use mathlib.Core.Bool.{Bool, true, false, cond, not}
 use mathlib.Core.List.{List, [], _∷_}
-use mathlib.Core.Logic.{_⊎_, inl, inr}
 use mathlib.Core.Option.{some}
 use mathlib.Core.Path.{_≡_, refl}
 use native.Mathlib.Omega.{arith}
@@ -60,18 +59,6 @@ module _ (kind n : ℕ) where
   unfolding lengthWrong
   size-unit e =
       eqb-true (n % getD unit kind 0) 0 (not-false (eqb (n % getD unit kind 0) 0) (neither (ltb n (getD least kind 0)) (not (eqb (n % getD unit kind 0) 0)) e .1))
-
--- ---- a right CHAN
-
-pub channel-value : (b : List ℕ) → channelWrong 2 b ≡ false → (bigEndian 4 b ≡ 2) ⊎ ((bigEndian 4 b ≡ 4) ⊎ (bigEndian 4 b ≡ 6))
-unfolding channelWrong
-channel-value b e = go (eqb (bigEndian 4 b) 2) (eqb (bigEndian 4 b) 4) refl refl (not-false (eqb (bigEndian 4 b) 2 || eqb (bigEndian 4 b) 4 || eqb (bigEndian 4 b) 6) e)
-  where
-    go : (u v : Bool) → eqb (bigEndian 4 b) 2 ≡ u → eqb (bigEndian 4 b) 4 ≡ v → (u || v || eqb (bigEndian 4 b) 6) ≡ true
-        → (bigEndian 4 b ≡ 2) ⊎ ((bigEndian 4 b ≡ 4) ⊎ (bigEndian 4 b ≡ 6))
-    go true v p q h = inl (eqb-true (bigEndian 4 b) 2 p)
-    go false true p q h = inr (inl (eqb-true (bigEndian 4 b) 4 q))
-    go false false p q h = inr (inr (eqb-true (bigEndian 4 b) 6 h))
 
 -- ---- a right chunk
 

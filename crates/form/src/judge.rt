@@ -10,6 +10,7 @@ use crate::names::VHDR;
 use chunk::ChunkStep;
 use chunk::chunk_at;
 use field::read32;
+use small_chunks::is_channel;
 ghost use mathlib.Core.Path.{_≡_};
 ghost use Prim.Native.Nat.{_≤_, _<_};
 ghost use lib.ListN.{length};
@@ -51,7 +52,7 @@ fn is_length_wrong(kind: usize, size: usize) -> bool
     size % UNIT[kind] != 0
 }
 
-// A CHAN that is not 2, 4 or 6: all four bytes count.
+// A CHAN whose value stands for no assignment: all four bytes count.
 fn is_channel_wrong(body: &[u8], kind: usize) -> bool
     requires { ⌜ (kind ≡ 2 → 4 ≤ length (now body)) ⌝ }
     ensures { λ r. ⌜ r ≡ channelWrong kind (now (body .entry)) ⌝ }
@@ -59,10 +60,7 @@ fn is_channel_wrong(body: &[u8], kind: usize) -> bool
     if kind != 2 {
         return false;
     }
-    match read32(body, 0) {
-        2 | 4 | 6 => false,
-        _ => true,
-    }
+    !is_channel(read32(body, 0))
 }
 
 // The refusal of one chunk, the lowest that applies, or 0; `came` says that one of its kind came before it.

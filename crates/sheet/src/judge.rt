@@ -1,6 +1,7 @@
 // A sheet judged in one pass: kinds, order and values, and the texts byte by byte beside them.
 use crate::record::RecordStep;
 use crate::record::record_at;
+use small_chunks::is_channel;
 use text_utf8::Lead;
 use text_utf8::between;
 use text_utf8::feed;
@@ -51,18 +52,12 @@ fn group_after(group: u8, kind: u8) -> u8
     kind
 }
 
-// A channel that is not 2, 4 or 6, or a text's key that is not 1 to 5.
+// A channel whose value stands for no assignment, or a text's key that is not 1 to 5.
 fn is_value_wrong(kind: u8, value: u8) -> bool
     ensures { λ r. ⌜ r ≡ valueWrong kind value ⌝ }
 {
     if kind == 2 {
-        if value == 2 {
-            return false;
-        }
-        if value == 4 {
-            return false;
-        }
-        return value != 6;
+        return !is_channel(value as u32);
     }
     if kind == 10 {
         if value == 0 {

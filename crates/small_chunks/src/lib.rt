@@ -10,6 +10,7 @@ mod sequence;
 
 pub use channel::ChannelAssignment;
 pub use channel::ParsedChannel;
+pub use channel::is_channel;
 pub use pan::Pan;
 pub use pan::PanWeights;
 pub use pan::ParsedPan;
