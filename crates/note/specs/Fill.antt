@@ -32,7 +32,7 @@ fillVoice v s r =
 
 -- the block of a sheet; 15 to 17 come first
 abbrev pub fillSheet : List ℕ → Sides → Request → Outcome (List Frame)
-fillSheet sheet s r = ifSound (judged sheet) (fillVoice (readSheet sheet) s r)
+fillSheet sheet s r = ifSound (judged sheet) refuses (fillVoice (readSheet sheet) s r)
 
 -- the answer: how many of its frames aren't over, or the number
 abbrev pub answerOf : Outcome (List Frame) → Answer

@@ -24,14 +24,14 @@ use Rattle.header.specs.declared.«voice_header».VoiceHeader.{VoiceHeader}
 use Rattle.header.specs.declared.«voice_header».SampleCount.{SampleCount}
 use Rattle.header.specs.declared.«voice_header».SampleCount.the-variants as count
 use Rattle.header.proofs.OctaveLaws.{octave-end}
-use Rattle.sheet.specs.Judge.{judged}
+use Rattle.sheet.specs.Judge.{judged, ifSound}
 use Rattle.sheet.specs.Read.{readSheet}
 use Rattle.sheet.specs.Voice.{isStereo}
 use Rattle.sheet.specs.declared.judge.Judged.{Judged}
 use Rattle.sheet.specs.declared.judge.Judged.the-variants.{Sound, Refused}
 use Rattle.octaves.specs.Octave.{octavePart, repeatAfter, afterOneShot, repeatStart, before, from, oneShotPart, repeatPart}
 use Rattle.octaves.specs.Part.{partOf, partAt, Within}
-use Rattle.octaves.specs.Side.{ofSide, frontPart, voiceSide, ifSound, sidePart}
+use Rattle.octaves.specs.Side.{ofSide, frontPart, voiceSide, sidePart}
 use Rattle.octaves.specs.declared.part.Part.{Part}
 use Rattle.octaves.specs.declared.part.Part.the-variants.{At, Absent}
 use Rattle.octaves.specs.declared.side.Side.{Side}
@@ -134,7 +134,7 @@ module _ (P : Part → Type 0) (n : ℕ) (absent : P Absent) (front : (m : ℕ) 
   side-part : (sheet : List ℕ) (side : Side) → P (sidePart sheet side n)
   side-part sheet side = by (judged sheet)
     where
-      by : (j : Judged) → P (ifSound j (voiceSide (readSheet sheet) side n))
+      by : (j : Judged) → P (ifSound j (λ number. Absent) (voiceSide (readSheet sheet) side n))
       by Sound =
           let v = readSheet sheet in
           one-of P (frontPart (v .header) n) Absent (front-part (v .header)) absent (ofSide side true (isStereo (v .channel)))

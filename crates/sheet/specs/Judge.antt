@@ -4,7 +4,6 @@ use lib.Dec.{eqb}
 use mathlib.Core.Bool.{Bool, true, cond, _&&_}
 use mathlib.Core.List.{List, [], _∷_}
 use Rattle.refusal.specs.Numbers.{textIllFormed}
-use Rattle.refusal.specs.Outcome.{Outcome, refuses}
 use Rattle.text_utf8.specs.Utf8.{wellFormed}
 use Rattle.sheet.specs.Record.{Item, records}
 use Rattle.sheet.specs.Order.{firstWrong}
@@ -28,7 +27,7 @@ judgedItems items =
 abbrev pub judged : List ℕ → Judged
 judged sheet = judgedItems (records sheet)
 
--- what follows for a sheet that is accepted; 15 to 17 else
-abbrev pub ifSound : {A : Type 0} → Judged → Outcome A → Outcome A
-ifSound Sound next = next
-ifSound (Refused number) next = refuses number
+-- what follows for a sheet that is accepted; for another, what its number, 15 to 17, gives
+abbrev pub ifSound : {A : Type 0} → Judged → (ℕ → A) → A → A
+ifSound Sound refused next = next
+ifSound (Refused number) refused next = refused number

@@ -3,6 +3,7 @@
 use mathlib.Core.Path.{sym, ap, _∙_}
 use borrow.Author.Needs.{needs}
 use lib.ListN.{length}
+use Rattle.refusal.specs.Outcome.{refuses}
 use Rattle.sheet.specs.Judge.{ifSound}
 use Rattle.sheet.specs.Read.{readSheet}
 use Rattle.sheet.specs.declared.judge.Judged.{Judged}
@@ -29,7 +30,7 @@ returns c =
     let a = e .before .before .before .before .args in
     let refused = sym (e .before .before .judge-sheet .ensures) ∙ e .number .given .1 in
     let next = fillVoice (readSheet (a .sheet .now)) (record { left = a .left .now; right = a .right .now }) (requestOf (a .self) (length (a .out .now))) in
-    (sym (ap (λ (j : Judged). answerOf (ifSound j next)) refused), (sym (ap (λ (j : Judged). noteAfter (ifSound j next) (a .self)) refused), sym (ap (λ (j : Judged). blockAfter (ifSound j next) (a .out .now)) refused)))
+    (sym (ap (λ (j : Judged). answerOf (ifSound j refuses next)) refused), (sym (ap (λ (j : Judged). noteAfter (ifSound j refuses next) (a .self)) refused), sym (ap (λ (j : Judged). blockAfter (ifSound j refuses next) (a .out .now)) refused)))
 
 same-length : tie.Need-same-length
 same-length c = search needs
@@ -41,7 +42,7 @@ returns-2 c =
     let a = e .before .before .before .before .args in
     let sound = sym (e .before .before .judge-sheet .ensures) ∙ e .enum-told .given .1 in
     let next = fillVoice (readSheet (a .sheet .now)) (record { left = a .left .now; right = a .right .now }) (requestOf (a .self) (length (a .out .now))) in
-    (f .fill-sound .ensures .0 ∙ sym (ap (λ (j : Judged). answerOf (ifSound j next)) sound), (f .fill-sound .ensures .1 .0 ∙ sym (ap (λ (j : Judged). noteAfter (ifSound j next) (a .self)) sound), f .fill-sound .ensures .1 .1 ∙ sym (ap (λ (j : Judged). blockAfter (ifSound j next) (a .out .now)) sound)))
+    (f .fill-sound .ensures .0 ∙ sym (ap (λ (j : Judged). answerOf (ifSound j refuses next)) sound), (f .fill-sound .ensures .1 .0 ∙ sym (ap (λ (j : Judged). noteAfter (ifSound j refuses next) (a .self)) sound), f .fill-sound .ensures .1 .1 ∙ sym (ap (λ (j : Judged). blockAfter (ifSound j refuses next) (a .out .now)) sound)))
 
 pub fill-spec : {M : Type 1} → statement M
 fill-spec =
