@@ -17,7 +17,7 @@ use Rattle.chunk.specs.Chunk.{Item, chunk, bad, itemsFrom, stepAt}
 use Rattle.chunk.specs.declared.ChunkStep.{ChunkStep}
 use Rattle.chunk.specs.declared.ChunkStep.the-variants.{Chunk, Refused, End}
 use Rattle.chunk.proofs.ChunkLaws.{Whole, at-chunk, at-end, at-refused}
-use Rattle.form.specs.Find.{firstOf, placeFrom, placeOf}
+use Rattle.form.specs.Find.{firstOf, placeFrom, firstPlace}
 use Rattle.form.specs.declared.place.Place.{Place}
 use Rattle.form.specs.declared.place.Place.the-variants.{At, Absent}
 
@@ -98,7 +98,7 @@ found-from f id (chunk i b ∷ items) at e = go (eqb i id) (found-from f id item
     go false later = later
 
 -- what `find` answers is such a place
-pub found : (f : List ℕ) (id : ℕ) (r : Place) → r ≡ placeOf f id → Found f id r
+pub found : (f : List ℕ) (id : ℕ) (r : Place) → r ≡ firstPlace f id → Found f id r
 found f id r e =
     let p = found-from f id (itemsFrom f 12) 12 refl in
     rw e (record { is = p .0; inside = p .1 })

@@ -29,5 +29,5 @@ placeFrom at id (bad number ∷ items) = Absent
 placeFrom at id (chunk i b ∷ items) = cond (eqb i id) (At (at + 8) (length b)) (placeFrom (at + 8 + length b + length b % 2) id items)
 
 -- the same in a FORM, whose chunks begin at 12
-abbrev pub placeOf : List ℕ → ℕ → Place
-placeOf f id = placeFrom 12 id (itemsFrom f 12)
+abbrev pub firstPlace : List ℕ → ℕ → Place
+firstPlace f id = placeFrom 12 id (itemsFrom f 12)

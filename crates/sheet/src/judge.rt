@@ -10,7 +10,7 @@ ghost use mathlib.Core.Path.{_≡_};
 ghost use Prim.Native.Nat.{_<_};
 ghost use lib.ListN.{getD};
 ghost use Rattle.sheet.specs.Order.{misplaced, groupAfter, valueWrong};
-ghost use Rattle.sheet.specs.TextState.{textsOf, noTexts, textsAfter, allWell};
+ghost use Rattle.sheet.specs.TextState.{textStateOf, noTexts, textsAfter, allWell};
 ghost use Rattle.sheet.specs.Judge.{judged};
 
 pub enum Judged {
@@ -86,7 +86,7 @@ struct TextState {
 
 impl TextState {
     fn start() -> Self
-        ensures { λ r. ⌜ textsOf r ≡ noTexts ⌝ }
+        ensures { λ r. ⌜ textStateOf r ≡ noTexts ⌝ }
     {
         TextState {
             lead: between(),
@@ -96,7 +96,7 @@ impl TextState {
 
     // After a record: 10 ends the text in hand, and 11 is one byte more of it.
     fn after(self, kind: u8, value: u8) -> Self
-        ensures { λ r. ⌜ textsOf r ≡ textsAfter (textsOf self) kind value ⌝ }
+        ensures { λ r. ⌜ textStateOf r ≡ textsAfter (textStateOf self) kind value ⌝ }
     {
         let lead = self.lead;
         if kind == 11 {
@@ -123,7 +123,7 @@ impl TextState {
 
     // The text in hand, as it stands, and all before it.
     fn is_well_formed(self) -> bool
-        ensures { λ r. ⌜ r ≡ allWell (textsOf self) ⌝ }
+        ensures { λ r. ⌜ r ≡ allWell (textStateOf self) ⌝ }
     {
         if self.ill {
             return false;

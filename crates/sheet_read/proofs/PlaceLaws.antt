@@ -22,7 +22,7 @@ use Rattle.form.proofs.FindLaws.{Found}
 use Rattle.form.proofs.FormLaws.{kind-name, size-least, first-sound}
 use Rattle.sheet.specs.Flat.{ifThere}
 use Rattle.sheet.specs.Read.{knownChannel}
-use Rattle.sheet_read.specs.Parts.{recordPart, channelPart, sequencePart}
+use Rattle.sheet_read.specs.Parts.{recordPart, channelPart, segmentsPart}
 use Rattle.sheet_read.proofs.TurnLaws.{segments-tagged}
 
 -- the least length of a name that has rules
@@ -49,5 +49,5 @@ module _ {f : List ℕ} {start size : ℕ} where
       let read : p ≡ channelOf (bigEndian 4 l) = h ∙ rw (le-ltb (length l) 4 four) in
       rw (← w .is, read)
 
-  pub sequence-at : Found f seqn (At start size) → Bytes f → sequencePart (itemsFrom f 12) ≡ 7 ∷ tagged 8 8 (take size (drop start f))
+  pub sequence-at : Found f seqn (At start size) → Bytes f → segmentsPart (itemsFrom f 12) ≡ 7 ∷ tagged 8 8 (take size (drop start f))
   sequence-at w b = rw (← w .is) (ap (λ (l : List ℕ). 7 ∷ l) (segments-tagged (take size (drop start f)) (bytes-take size (drop start f) (bytes-drop start f b))))

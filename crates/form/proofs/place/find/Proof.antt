@@ -12,10 +12,10 @@ use Rattle.form.proofs.place.find.Tie as tie
 use Rattle.chunk.proofs.ChunkLaws.{Whole, at-chunk, at-end, at-refused}
 use Rattle.chunk.specs.Chunk.{itemsFrom}
 use Rattle.form.proofs.FindLaws.{place-hit, place-miss}
-use Rattle.form.specs.Find.{placeFrom, placeOf}
+use Rattle.form.specs.Find.{placeFrom, firstPlace}
 
 abbrev Inv-loop : tie.InvT-loop
-Inv-loop form id at₀ at = placeFrom at id (itemsFrom form at) ≡ placeOf form id
+Inv-loop form id at₀ at = placeFrom at id (itemsFrom form at) ≡ firstPlace form id
 
 abbrev μ-loop : tie.MeasureT-loop
 μ-loop form id at₀ at = length form - at

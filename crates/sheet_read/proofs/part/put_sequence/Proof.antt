@@ -15,7 +15,7 @@ use Rattle.chunk.specs.Chunk.{itemsFrom}
 use Rattle.form.specs.Names.{seqn}
 use Rattle.form.specs.declared.place.Place.the-variants.{At}
 use Rattle.form.proofs.FindLaws.{Found, found}
-use Rattle.sheet_read.specs.Parts.{sequencePart}
+use Rattle.sheet_read.specs.Parts.{segmentsPart}
 use Rattle.sheet_read.proofs.PlaceLaws.{sequence-at}
 
 -- where the chunk lies
@@ -26,7 +26,7 @@ lies c = rw (c .start .given .1) at (found _ _ _ (c .before .before .find .ensur
 part-is : (c : tie.After-start) →
     let g = c .start .given .0 in
     let f = now (c .before .before .before .before .before .args .form) in
-    sequencePart (itemsFrom f 12) ≡ 7 ∷ tagged 8 8 (take (g .0 + g .1 .0 - g .0) (drop (g .0) f))
+    segmentsPart (itemsFrom f 12) ≡ 7 ∷ tagged 8 8 (take (g .0 + g .1 .0 - g .0) (drop (g .0) f))
 part-is c =
     let g = c .start .given .0 in
     let e : g .0 + g .1 .0 - g .0 ≡ g .1 .0 = omega arith in
