@@ -21,8 +21,8 @@ use Rattle.header.specs.declared.compression.KnownCompression.the-variants.{Kno
 use Rattle.fibonacci.specs.Decode.{fibSamples}
 use Rattle.samples.specs.Stream.{stream}
 use Rattle.samples.specs.Halves.{leftHalf, rightHalf}
-use Rattle.body_decode.specs.Body.{interleaved, frameBytes, oneChannel, twoChannels, decodedBody}
-use Rattle.body_decode.proofs.InterleaveLaws.{interleaved-length}
+use Rattle.body_decode.specs.Body.{byTurns, frameBytes, oneChannel, twoChannels, decodedBody}
+use Rattle.body_decode.proofs.InterleaveLaws.{by-turns-length}
 
 -- ---- at most so many
 
@@ -83,7 +83,7 @@ pub right-length : (body : List ℕ) → length (rightHalf body) ≡ length body
 right-length body = rw (length-take, length-drop) (omega arith)
 
 module _ (limit : ℕ) (body : List ℕ) where
-  pub two-raw-is : Bytes body → twoChannels None limit body ≡ gives (interleaved (take limit (leftHalf body)) (take limit (rightHalf body)))
+  pub two-raw-is : Bytes body → twoChannels None limit body ≡ gives (byTurns (take limit (leftHalf body)) (take limit (rightHalf body)))
   unfolding twoChannels stream
   two-raw-is h =
       let left = raw-frames limit (leftHalf body) (bytes-take (length body / 2) body h) in
@@ -101,7 +101,7 @@ module _ (limit : ℕ) (body : List ℕ) where
         let left : length (leftHalf body) < 2 = rw (half-length body) h in
         rw (ne-eqb (length body % 2) 1 even, lt-ltb (length (leftHalf body)) 2 left)
 
-    pub two-fibonacci-is : 2 ≤ length body / 2 → twoChannels Fibonacci limit body ≡ gives (interleaved (frameBytes limit (fibSamples (leftHalf body))) (frameBytes limit (fibSamples (rightHalf body))))
+    pub two-fibonacci-is : 2 ≤ length body / 2 → twoChannels Fibonacci limit body ≡ gives (byTurns (frameBytes limit (fibSamples (leftHalf body))) (frameBytes limit (fibSamples (rightHalf body))))
     unfolding twoChannels stream
     two-fibonacci-is h =
         let left : 2 ≤ length (leftHalf body) = rw (half-length body) h in
@@ -110,26 +110,26 @@ module _ (limit : ℕ) (body : List ℕ) where
 
 -- n is the number of frames that raw halves give
 module _ (limit : ℕ) (body : List ℕ) (n : ℕ) (e : n ≡ min limit (length body / 2)) where
-  pub raw-halves-length : n + n ≡ length (interleaved (take limit (leftHalf body)) (take limit (rightHalf body)))
+  pub raw-halves-length : n + n ≡ length (byTurns (take limit (leftHalf body)) (take limit (rightHalf body)))
   raw-halves-length =
       let left : length (take limit (leftHalf body)) ≡ n = rw (length-take limit (leftHalf body), half-length body) (sym e) in
       let right : length (take limit (rightHalf body)) ≡ n = rw (length-take limit (rightHalf body), right-length body) (sym e) in
-      sym (interleaved-length (take limit (leftHalf body)) (take limit (rightHalf body)) n left right)
+      sym (by-turns-length (take limit (leftHalf body)) (take limit (rightHalf body)) n left right)
 
-  pub raw-halves-are : interleaved (take n (leftHalf body)) (take n (rightHalf body)) ≡ interleaved (take limit (leftHalf body)) (take limit (rightHalf body))
+  pub raw-halves-are : byTurns (take n (leftHalf body)) (take n (rightHalf body)) ≡ byTurns (take limit (leftHalf body)) (take limit (rightHalf body))
   raw-halves-are =
       let left : n ≡ min limit (length (leftHalf body)) = e ∙ ap (min limit) (sym (half-length body)) in
       let right : n ≡ min limit (length (rightHalf body)) = e ∙ ap (min limit) (sym (right-length body)) in
       let ls : take n (leftHalf body) ≡ take limit (leftHalf body) = ap (λ (k : ℕ). take k (leftHalf body)) left ∙ take-least limit (leftHalf body) in
       let rs : take n (rightHalf body) ≡ take limit (rightHalf body) = ap (λ (k : ℕ). take k (rightHalf body)) right ∙ take-least limit (rightHalf body) in
-      ap (λ (l : List ℕ). interleaved l (take n (rightHalf body))) ls ∙ ap (interleaved (take limit (leftHalf body))) rs
+      ap (λ (l : List ℕ). byTurns l (take n (rightHalf body))) ls ∙ ap (byTurns (take limit (leftHalf body))) rs
 
 -- the same of two channels of samples, of one length
 module _ (limit : ℕ) (ls rs : List ℤ) (n : ℕ) (el : n ≡ min limit (length ls)) (er : n ≡ min limit (length rs)) where
-  pub halves-length : n + n ≡ length (interleaved (frameBytes limit ls) (frameBytes limit rs))
-  halves-length = sym (interleaved-length (frameBytes limit ls) (frameBytes limit rs) n (sym (frames-length limit ls n el)) (sym (frames-length limit rs n er)))
+  pub halves-length : n + n ≡ length (byTurns (frameBytes limit ls) (frameBytes limit rs))
+  halves-length = sym (by-turns-length (frameBytes limit ls) (frameBytes limit rs) n (sym (frames-length limit ls n el)) (sym (frames-length limit rs n er)))
 
-  pub halves-are : interleaved (frameBytes n ls) (frameBytes n rs) ≡ interleaved (frameBytes limit ls) (frameBytes limit rs)
+  pub halves-are : byTurns (frameBytes n ls) (frameBytes n rs) ≡ byTurns (frameBytes limit ls) (frameBytes limit rs)
   halves-are = rw (frames-are limit ls n el, frames-are limit rs n er)
 
 -- ---- a whole BODY

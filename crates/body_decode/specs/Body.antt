@@ -14,10 +14,10 @@ use Rattle.samples.specs.Stream.{stream}
 use Rattle.samples.specs.Halves.{leftHalf, rightHalf, uneven}
 
 -- a left and a right byte by turns
-unfoldable pub interleaved : List ℕ → List ℕ → List ℕ
-interleaved [] rs = []
-interleaved (l ∷ ls) [] = []
-interleaved (l ∷ ls) (r ∷ rs) = l ∷ r ∷ interleaved ls rs
+unfoldable pub byTurns : List ℕ → List ℕ → List ℕ
+byTurns [] rs = []
+byTurns (l ∷ ls) [] = []
+byTurns (l ∷ ls) (r ∷ rs) = l ∷ r ∷ byTurns ls rs
 
 -- a channel's samples as bytes, at most `frames` of them
 abbrev pub frameBytes : ℕ → List ℤ → List ℕ
@@ -31,7 +31,7 @@ oneChannel c frames body = andThen (stream c body) (λ samples. gives (frameByte
 unfoldable pub twoChannels : Compression → ℕ → List ℕ → Outcome (List ℕ)
 twoChannels c frames body =
     cond (uneven c body) (refuses oddHalves)
-    (andThen (stream c (leftHalf body)) (λ left. andThen (stream c (rightHalf body)) (λ right. gives (interleaved (frameBytes frames left) (frameBytes frames right)))))
+    (andThen (stream c (leftHalf body)) (λ left. andThen (stream c (rightHalf body)) (λ right. gives (byTurns (frameBytes frames left) (frameBytes frames right)))))
 
 -- the compression as its header byte; 0 channels count as 1, more than 2 as 2
 abbrev pub decodedBody : ℕ → ℕ → ℕ → List ℕ → Outcome (List ℕ)

@@ -14,7 +14,7 @@ ghost use Rattle.refusal.specs.Outcome.{answer, bufferAfter};
 ghost use Rattle.header.specs.declared.compression.Compression.the-variants.{None, Fibonacci};
 ghost use Rattle.fibonacci.specs.Step.{fibStep};
 ghost use Rattle.fibonacci.specs.Decode.{nibbles, fibSamples};
-ghost use Rattle.body_decode.specs.Body.{interleaved, frameBytes, oneChannel, twoChannels, decodedBody};
+ghost use Rattle.body_decode.specs.Body.{byTurns, frameBytes, oneChannel, twoChannels, decodedBody};
 
 fn least(a: usize, b: usize) -> usize
     ensures { λ r. ⌜ r ≡ min a b ⌝ }
@@ -56,7 +56,7 @@ fn copy_bytes(body: &[u8], out: &mut [u8], n: usize)
 // The first n bytes of both sides, left and right by turns.
 fn interleave_bytes(left: &[u8], right: &[u8], out: &mut [u8], n: usize)
     requires { ⌜ (n ≤ length (now left)) × (n ≤ length (now right)) × (n + n ≤ length (now out)) ⌝ }
-    ensures { λ _. ⌜ now (out .exit) ≡ written (interleaved (take n (now (left .entry))) (take n (now (right .entry)))) (now (out .entry)) ⌝ }
+    ensures { λ _. ⌜ now (out .exit) ≡ written (byTurns (take n (now (left .entry))) (take n (now (right .entry)))) (now (out .entry)) ⌝ }
 {
     let mut i = 0;
     while i < n {
@@ -85,7 +85,7 @@ fn copy_fibonacci(body: &[u8], out: &mut [u8], n: usize)
 // The first n samples of two Fibonacci channels, as bytes, left and right by turns.
 fn interleave_fibonacci(left: &[u8], right: &[u8], out: &mut [u8], n: usize)
     requires { ⌜ (2 ≤ length (now left)) × (2 ≤ length (now right)) × (n ≤ length (fibSamples (now left))) × (n ≤ length (fibSamples (now right))) × (n + n ≤ length (now out)) ⌝ }
-    ensures { λ _. ⌜ now (out .exit) ≡ written (interleaved (frameBytes n (fibSamples (now (left .entry)))) (frameBytes n (fibSamples (now (right .entry))))) (now (out .entry)) ⌝ }
+    ensures { λ _. ⌜ now (out .exit) ≡ written (byTurns (frameBytes n (fibSamples (now (left .entry)))) (frameBytes n (fibSamples (now (right .entry))))) (now (out .entry)) ⌝ }
 {
     let mut a = field::sample_of_byte(left[1]);
     let mut b = field::sample_of_byte(right[1]);

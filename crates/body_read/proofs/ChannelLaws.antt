@@ -27,14 +27,14 @@ use Rattle.fibonacci.specs.Decode.{fibSamples}
 use Rattle.fibonacci.proofs.DecodeLaws.{samples-length}
 use Rattle.samples.specs.Stream.{stream}
 use Rattle.body_read.specs.Sides.{octavesOf, channelSamples}
-use Rattle.body_read.specs.Answers.{countOf, keptOf, streamSamples, StreamHas}
+use Rattle.body_read.specs.Answers.{sampleCountOf, keptOf, streamSamples, StreamHas}
 use Rattle.body_read.specs.declared.lengths.Count.{Count}
 use Rattle.body_read.specs.declared.lengths.Count.the-variants.{Samples, Refused}
 
 -- ---- counts
 
 -- a count tells whether samples are given
-pub count-refused : (o : Outcome (List ℤ)) (number : ℕ) → countOf o ≡ Refused number → o ≡ refuses number
+pub count-refused : (o : Outcome (List ℤ)) (number : ℕ) → sampleCountOf o ≡ Refused number → o ≡ refuses number
 count-refused (gives xs) number e = let z : _≡_ {A = ℕ} 0 1 = cc in absurd (omega arith)
 count-refused (refuses k) number e = cc
 
@@ -67,12 +67,12 @@ abbrev pub countIn : Compression → ℕ → Count
 countIn None n = Samples n
 countIn Fibonacci n = cond (ltb n 2) (Refused channelShort) (Samples (2 * (n - 2) + 1))
 
-pub stream-count : (c : Compression) (bytes : List ℕ) → countOf (stream c bytes) ≡ countIn c (length bytes)
+pub stream-count : (c : Compression) (bytes : List ℕ) → sampleCountOf (stream c bytes) ≡ countIn c (length bytes)
 unfolding stream
 stream-count None bytes = ap Samples (length-map bytes sampleOf)
 stream-count Fibonacci bytes = go (ltb (length bytes) 2)
   where
-    go : (t : Bool) → countOf (cond t (refuses channelShort) (gives (fibSamples bytes))) ≡ cond t (Refused channelShort) (Samples (2 * (length bytes - 2) + 1))
+    go : (t : Bool) → sampleCountOf (cond t (refuses channelShort) (gives (fibSamples bytes))) ≡ cond t (Refused channelShort) (Samples (2 * (length bytes - 2) + 1))
     go true = refl
     go false = ap Samples (samples-length bytes)
 
@@ -88,10 +88,10 @@ module _ (h : VoiceHeader) (samples : List ℤ) where
   abbrev kept : Bool → Bool → Bool → Outcome (List ℤ)
   kept p q r = cond p (cond q (gives samples) (cond r (refuses samplesShort) (gives (take (totalSamples h) samples)))) (refuses octaveTotal)
 
-  octaves-count : countOf (octavesOf h samples) ≡ keptOf h (length samples)
+  octaves-count : sampleCountOf (octavesOf h samples) ≡ keptOf h (length samples)
   octaves-count = go (ltb (totalSamples h) (2 ^ 64)) (eqb (hi h) 0) (ltb (length samples) (totalSamples h)) refl
     where
-      go : (p q r : Bool) → ltb (length samples) (totalSamples h) ≡ r → countOf (kept p q r) ≡ cond p (cond q (Samples (length samples)) (cond r (Refused samplesShort) (Samples (totalSamples h)))) (Refused octaveTotal)
+      go : (p q r : Bool) → ltb (length samples) (totalSamples h) ≡ r → sampleCountOf (kept p q r) ≡ cond p (cond q (Samples (length samples)) (cond r (Refused samplesShort) (Samples (totalSamples h)))) (Refused octaveTotal)
       go false q r e = refl
       go true true r e = refl
       go true false true e = refl
@@ -104,10 +104,10 @@ module _ (h : VoiceHeader) (samples : List ℤ) where
     pub total : totalSamples h < 2 ^ 64
     pub suits : (eqb (hi h) 0 || eqb n (totalSamples h)) ≡ true
 
-  octaves-kept : (n : ℕ) → countOf (octavesOf h samples) ≡ Samples n → Kept n
+  octaves-kept : (n : ℕ) → sampleCountOf (octavesOf h samples) ≡ Samples n → Kept n
   octaves-kept n = go (ltb (totalSamples h) (2 ^ 64)) (eqb (hi h) 0) (ltb (length samples) (totalSamples h)) refl refl refl
     where
-      go : (p q r : Bool) → ltb (totalSamples h) (2 ^ 64) ≡ p → eqb (hi h) 0 ≡ q → ltb (length samples) (totalSamples h) ≡ r → countOf (kept p q r) ≡ Samples n → Kept n
+      go : (p q r : Bool) → ltb (totalSamples h) (2 ^ 64) ≡ p → eqb (hi h) 0 ≡ q → ltb (length samples) (totalSamples h) ≡ r → sampleCountOf (kept p q r) ≡ Samples n → Kept n
       go false q r pe qe re e = let z : _≡_ {A = ℕ} 0 1 = cc in absurd (omega arith)
       go true true r pe qe re e =
           let all : length samples ≡ n = cc in
@@ -143,15 +143,15 @@ module _ (h : VoiceHeader) (samples : List ℤ) where
 
 -- ---- a channel
 
-pub channel-count : (h : VoiceHeader) (c : Compression) (bytes : List ℕ) → countOf (channelSamples h c bytes) ≡ keptCount h (countOf (stream c bytes))
+pub channel-count : (h : VoiceHeader) (c : Compression) (bytes : List ℕ) → sampleCountOf (channelSamples h c bytes) ≡ keptCount h (sampleCountOf (stream c bytes))
 unfolding channelSamples
 channel-count h c bytes = go (stream c bytes)
   where
-    go : (o : Outcome (List ℤ)) → countOf (andThen o (octavesOf h)) ≡ keptCount h (countOf o)
+    go : (o : Outcome (List ℤ)) → sampleCountOf (andThen o (octavesOf h)) ≡ keptCount h (sampleCountOf o)
     go (gives samples) = octaves-count h samples
     go (refuses number) = refl
 
-pub same-count : (h : VoiceHeader) (c : Compression) (a b : List ℕ) → length a ≡ length b → countOf (channelSamples h c a) ≡ countOf (channelSamples h c b)
+pub same-count : (h : VoiceHeader) (c : Compression) (a b : List ℕ) → length a ≡ length b → sampleCountOf (channelSamples h c a) ≡ sampleCountOf (channelSamples h c b)
 same-count h c a b e = channel-count h c a ∙ ap (keptCount h) (stream-count c a ∙ ap (countIn c) e ∙ sym (stream-count c b)) ∙ sym (channel-count h c b)
 
 -- a channel of n samples: its stream has so many, they are its first ones, and n suits the header
@@ -163,7 +163,7 @@ pub record Channel (h : VoiceHeader) (c : Compression) (bytes : List ℕ) (n : �
   pub suits : (eqb (hi h) 0 || eqb n (totalSamples h)) ≡ true
 
 -- from a stream that gives samples
-channel-from : (h : VoiceHeader) (c : Compression) (bytes : List ℕ) (n : ℕ) → stream c bytes ≡ gives (streamSamples c bytes) → (n ≤ length (streamSamples c bytes) → StreamHas c bytes n) → countOf (channelSamples h c bytes) ≡ Samples n → Channel h c bytes n
+channel-from : (h : VoiceHeader) (c : Compression) (bytes : List ℕ) (n : ℕ) → stream c bytes ≡ gives (streamSamples c bytes) → (n ≤ length (streamSamples c bytes) → StreamHas c bytes n) → sampleCountOf (channelSamples h c bytes) ≡ Samples n → Channel h c bytes n
 unfolding channelSamples
 channel-from h c bytes n s has e =
     let k = octaves-kept h (streamSamples c bytes) n (rw s at e) in
@@ -175,13 +175,13 @@ channel-from h c bytes n s has e =
       suits = k .suits;
     }
 
-pub channel-gives : (h : VoiceHeader) (c : Compression) (bytes : List ℕ) (n : ℕ) → countOf (channelSamples h c bytes) ≡ Samples n → Channel h c bytes n
+pub channel-gives : (h : VoiceHeader) (c : Compression) (bytes : List ℕ) (n : ℕ) → sampleCountOf (channelSamples h c bytes) ≡ Samples n → Channel h c bytes n
 channel-gives h None bytes n e = channel-from h None bytes n (stream-gives None bytes 0 zero-le) (λ w. rw (length-map bytes sampleOf) at w) e
 channel-gives h Fibonacci bytes n e = go (ltb (length bytes) 2) refl
   where
     go : (t : Bool) → ltb (length bytes) 2 ≡ t → Channel h Fibonacci bytes n
     go true te =
-        let short = channel-count h Fibonacci bytes ∙ ap (λ (o : Outcome (List ℤ)). keptCount h (countOf o)) (stream-refused bytes (ltb-true (length bytes) 2 te)) in
+        let short = channel-count h Fibonacci bytes ∙ ap (λ (o : Outcome (List ℤ)). keptCount h (sampleCountOf o)) (stream-refused bytes (ltb-true (length bytes) 2 te)) in
         let z : _≡_ {A = ℕ} 0 1 = cc in
         absurd (omega arith)
     go false te =
@@ -190,7 +190,7 @@ channel-gives h Fibonacci bytes n e = go (ltb (length bytes) 2) refl
 
 -- the same of what a channel gives
 pub channel-of : (h : VoiceHeader) (c : Compression) (bytes : List ℕ) (xs : List ℤ) → channelSamples h c bytes ≡ gives xs → Channel h c bytes (length xs)
-channel-of h c bytes xs e = channel-gives h c bytes (length xs) (ap countOf e)
+channel-of h c bytes xs e = channel-gives h c bytes (length xs) (ap sampleCountOf e)
 
 -- a raw channel that is as long as the header says is kept whole
 pub channel-whole : (h : VoiceHeader) (bytes : List ℕ) → totalSamples h < 2 ^ 64 → (eqb (hi h) 0 || eqb (length bytes) (totalSamples h)) ≡ true → channelSamples h None bytes ≡ gives (map sampleOf bytes)

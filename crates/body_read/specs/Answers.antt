@@ -21,19 +21,19 @@ use Rattle.body_read.specs.declared.lengths.SideLengths.{SideLengths}
 use Rattle.body_read.specs.declared.lengths.SideLengths.the-variants.{Lengths, Refused}
 
 -- how many samples there are
-abbrev pub countOf : Outcome (List ℤ) → Count
-countOf (gives samples) = count.Samples (length samples)
-countOf (refuses number) = count.Refused number
+abbrev pub sampleCountOf : Outcome (List ℤ) → Count
+sampleCountOf (gives samples) = count.Samples (length samples)
+sampleCountOf (refuses number) = count.Refused number
 
 -- the lengths of the sides
-abbrev pub lengthsOf : Outcome Sides → SideLengths
-lengthsOf (gives s) = Lengths (length (s .left)) (length (s .right))
-lengthsOf (refuses number) = Refused number
+abbrev pub sideLengthsOf : Outcome Sides → SideLengths
+sideLengthsOf (gives s) = Lengths (length (s .left)) (length (s .right))
+sideLengthsOf (refuses number) = Refused number
 
 -- both sides fit their buffers
-abbrev pub Room : Outcome Sides → ℕ → ℕ → Type 0
-Room (gives s) left right = (length (s .left) ≤ left) × (length (s .right) ≤ right)
-Room (refuses number) left right = Unit
+abbrev pub SidesFit : Outcome Sides → ℕ → ℕ → Type 0
+SidesFit (gives s) left right = (length (s .left) ≤ left) × (length (s .right) ≤ right)
+SidesFit (refuses number) left right = Unit
 
 -- the left buffer: the left side's samples, and past them what it held
 abbrev pub leftAfter : Outcome Sides → List ℤ → List ℤ

@@ -16,7 +16,7 @@ ghost use lib.ListN.{length, take};
 ghost use Rattle.laws.specs.Buffer.{written};
 ghost use Rattle.refusal.specs.Outcome.{answer, bufferAfter};
 ghost use Rattle.body_read.specs.Sides.{channelSamples, twoSides, bodySides};
-ghost use Rattle.body_read.specs.Answers.{Room, leftAfter, rightAfter, streamSamples, StreamHas};
+ghost use Rattle.body_read.specs.Answers.{SidesFit, leftAfter, rightAfter, streamSamples, StreamHas};
 
 // The first n samples of a channel's stream.
 fn decode_stream(c: Compression, bytes: &[u8], out: &mut [i8], n: usize)
@@ -51,7 +51,7 @@ fn decode_channel(h: VoiceHeader, c: Compression, bytes: &[u8], out: &mut [i8]) 
 }
 
 fn decode_two(h: VoiceHeader, c: Compression, body: &[u8], left: &mut [i8], right: &mut [i8])
-    requires { ⌜ Room (twoSides h c (now body)) (length (now left)) (length (now right)) ⌝ }
+    requires { ⌜ SidesFit (twoSides h c (now body)) (length (now left)) (length (now right)) ⌝ }
     ensures left { λ _. ⌜ now (left .exit) ≡ leftAfter (twoSides h c (now (body .entry))) (now (left .entry)) ⌝ }
     ensures right { λ _. ⌜ now (right .exit) ≡ rightAfter (twoSides h c (now (body .entry))) (now (right .entry)) ⌝ }
 {
@@ -64,7 +64,7 @@ fn decode_two(h: VoiceHeader, c: Compression, body: &[u8], left: &mut [i8], righ
 
 // Both sides' samples, at the front of their buffers.
 pub fn decode_sides(h: VoiceHeader, stereo: bool, body: &[u8], left: &mut [i8], right: &mut [i8])
-    requires { ⌜ Room (bodySides h stereo (now body)) (length (now left)) (length (now right)) ⌝ }
+    requires { ⌜ SidesFit (bodySides h stereo (now body)) (length (now left)) (length (now right)) ⌝ }
     ensures left { λ _. ⌜ now (left .exit) ≡ leftAfter (bodySides h stereo (now (body .entry))) (now (left .entry)) ⌝ }
     ensures right { λ _. ⌜ now (right .exit) ≡ rightAfter (bodySides h stereo (now (body .entry))) (now (right .entry)) ⌝ }
 {

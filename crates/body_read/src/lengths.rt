@@ -8,7 +8,7 @@ ghost use mathlib.Core.Path.{_≡_};
 ghost use Rattle.samples.specs.Stream.{stream};
 ghost use Rattle.samples.specs.Halves.{uneven};
 ghost use Rattle.body_read.specs.Sides.{channelSamples, oneSide, twoSides, bodySides, lengthsSuit};
-ghost use Rattle.body_read.specs.Answers.{countOf, lengthsOf, keptOf};
+ghost use Rattle.body_read.specs.Answers.{sampleCountOf, sideLengthsOf, keptOf};
 
 // How many samples the left and the right side have.
 pub enum SideLengths {
@@ -24,7 +24,7 @@ pub(crate) enum Count {
 
 // The samples of a channel's stream; 12 for a Fibonacci channel under 2 bytes.
 fn stream_length(c: Compression, bytes: &[u8]) -> Count
-    ensures { λ r. ⌜ r ≡ countOf (stream c (now (bytes .entry))) ⌝ }
+    ensures { λ r. ⌜ r ≡ sampleCountOf (stream c (now (bytes .entry))) ⌝ }
 {
     let n = bytes.len();
     match c {
@@ -60,7 +60,7 @@ fn kept_length(h: VoiceHeader, n: usize) -> Count
 
 // The samples of a channel; 12, 13, 14 in that order.
 pub(crate) fn channel_length(h: VoiceHeader, c: Compression, bytes: &[u8]) -> Count
-    ensures { λ r. ⌜ r ≡ countOf (channelSamples h c (now (bytes .entry))) ⌝ }
+    ensures { λ r. ⌜ r ≡ sampleCountOf (channelSamples h c (now (bytes .entry))) ⌝ }
 {
     match stream_length(c, bytes) {
         Count::Refused(number) => Count::Refused(number),
@@ -79,7 +79,7 @@ pub(crate) fn is_uneven(c: Compression, body: &[u8]) -> bool
 }
 
 fn one_length(h: VoiceHeader, c: Compression, body: &[u8]) -> SideLengths
-    ensures { λ r. ⌜ r ≡ lengthsOf (oneSide h c (now (body .entry))) ⌝ }
+    ensures { λ r. ⌜ r ≡ sideLengthsOf (oneSide h c (now (body .entry))) ⌝ }
 {
     match channel_length(h, c, body) {
         Count::Refused(number) => SideLengths::Refused(number),
@@ -89,7 +89,7 @@ fn one_length(h: VoiceHeader, c: Compression, body: &[u8]) -> SideLengths
 
 // The halves of BODY are of one length, so the left one speaks for both.
 fn two_lengths(h: VoiceHeader, c: Compression, body: &[u8]) -> SideLengths
-    ensures { λ r. ⌜ r ≡ lengthsOf (twoSides h c (now (body .entry))) ⌝ }
+    ensures { λ r. ⌜ r ≡ sideLengthsOf (twoSides h c (now (body .entry))) ⌝ }
 {
     if is_uneven(c, body) {
         return SideLengths::Refused(refusal::ODD_HALVES);
@@ -102,7 +102,7 @@ fn two_lengths(h: VoiceHeader, c: Compression, body: &[u8]) -> SideLengths
 
 // The lengths of the sides that BODY gives; 10 to 14, lowest first.
 pub fn side_lengths(h: VoiceHeader, stereo: bool, body: &[u8]) -> SideLengths
-    ensures { λ r. ⌜ r ≡ lengthsOf (bodySides h stereo (now (body .entry))) ⌝ }
+    ensures { λ r. ⌜ r ≡ sideLengthsOf (bodySides h stereo (now (body .entry))) ⌝ }
 {
     match h.compression() {
         KnownCompression::Refused(number) => SideLengths::Refused(number),

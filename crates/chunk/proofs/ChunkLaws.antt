@@ -52,6 +52,8 @@ module _ (f : List ℕ) (at : ℕ) where
 
 pub record Whole (f : List ℕ) (at id start n next : ℕ) : Type 0 where
   pub items : itemsFrom f at ≡ chunk id (take n (drop start f)) ∷ itemsFrom f next
+  pub begins : start ≡ at + 8
+  pub past : next ≡ at + 8 + n + n % 2
   pub inside : start + n ≤ length f
   pub on : at < next
   pub begun : at < length f
@@ -107,7 +109,7 @@ module _ (f : List ℕ) (at : ℕ) where
           let rest : drop (suc (7 + m + m % 2)) (drop at f) ≡ drop next f =
           drop-drop (suc (7 + m + m % 2)) at f ∙ ap (λ (k : ℕ). drop k f) past-it in
           let read = walk-more (λ l. firstItem (headOf l) l) nil-first (drop at f) (chunk i (take m (drop 8 (drop at f)))) (7 + m + m % 2) (rw p) in
-          record { items = cc (read, body, rest, ei, em); inside = omega arith; on = omega arith; begun = omega arith }
+          record { items = cc (read, body, rest, ei, em); begins = omega arith; past = omega arith; inside = omega arith; on = omega arith; begun = omega arith }
       go (refused q) p e = impossible cc
       go none p e = impossible cc
 

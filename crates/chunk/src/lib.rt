@@ -35,9 +35,11 @@ pub fn walk_end(file: &[u8]) -> usize
     end
 }
 
-// The part of the file that the walk goes over.
+// The part of the file that the walk goes over: it begins where the file does.
 pub fn form(file: &[u8]) -> &[u8]
-    ensures { λ r. ⌜ (now r ≡ take (endOf (now (file .entry))) (now (file .entry))) × (length (now r) < 2 ^ 33) ⌝ }
+    ensures contents { λ r. ⌜ now r ≡ take (endOf (now (file .entry))) (now (file .entry)) ⌝ }
+    ensures short { λ r. ⌜ length (now r) < 2 ^ 33 ⌝ }
+    ensures place { λ r. ⌜ r .ptr ≡ file .entry .ptr ⌝ }
 {
     let end = walk_end(file);
     &file[..end]

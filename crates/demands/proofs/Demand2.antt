@@ -5,7 +5,7 @@ use mathlib.Core.List.{List}
 use mathlib.Core.Path.{_≡_, refl}
 use native.Mathlib.Omega.{arith}
 use Rattle.laws.proofs.Cases.{impossible}
-use Rattle.refusal.specs.Outcome.{gives}
+use Rattle.refusal.specs.Outcome.{gives, refuses}
 use Rattle.field.specs.BigEndian.{Bytes, bigEndianBytes}
 use Rattle.field.specs.Signed.{Samples, twosComplementBits}
 use Rattle.header.specs.Compression.{knownCompression}
@@ -35,7 +35,7 @@ use Rattle.demands.proofs.Accepted.{read-sound, read-samples}
 written-sound : (sheet : List ℕ) (s : Sides) (file : List ℕ) → writeSheet sheet s ≡ gives file → (judged sheet ≡ judged.Sound) × (writeVoice (readSheet sheet) s ≡ gives file)
 written-sound sheet s file = go (judged sheet) refl
   where
-    go : (j : Judged) → judged sheet ≡ j → ifSound j (writeVoice (readSheet sheet) s) ≡ gives file → (judged sheet ≡ judged.Sound) × (writeVoice (readSheet sheet) s ≡ gives file)
+    go : (j : Judged) → judged sheet ≡ j → ifSound j refuses (writeVoice (readSheet sheet) s) ≡ gives file → (judged sheet ≡ judged.Sound) × (writeVoice (readSheet sheet) s ≡ gives file)
     go judged.Sound p e = (p, e)
     go (judged.Refused number) p e = impossible cc
 

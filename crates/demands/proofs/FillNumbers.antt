@@ -45,7 +45,7 @@ pub by-a-rule : (sheet : List ℕ) (s : Sides) (r : Request) (n : ℕ) → fillS
     → (judged sheet ≡ judged.Refused n) ⊎ ((judged sheet ≡ judged.Sound) × Holds n (fillRules (readSheet sheet) (length (s .left)) (length (s .right)) r))
 by-a-rule sheet s r n = go (judged sheet) refl
   where
-    go : (j : Judged) → judged sheet ≡ j → ifSound j (fillVoice (readSheet sheet) s r) ≡ refuses n
+    go : (j : Judged) → judged sheet ≡ j → ifSound j refuses (fillVoice (readSheet sheet) s r) ≡ refuses n
         → (judged sheet ≡ judged.Refused n) ⊎ ((judged sheet ≡ judged.Sound) × Holds n (rulesOf (readSheet sheet) s r))
     go judged.Sound p e = inr (p, rule-holds (readSheet sheet) s r n e)
     go (judged.Refused k) p e = let same : k ≡ n = cc in inl (rw (← same) p)
@@ -54,7 +54,7 @@ pub by-none : (sheet : List ℕ) (s : Sides) (r : Request) (block : List Frame) 
     → (judged sheet ≡ judged.Sound) × NoneHolds (fillRules (readSheet sheet) (length (s .left)) (length (s .right)) r)
 by-none sheet s r block = go (judged sheet) refl
   where
-    go : (j : Judged) → judged sheet ≡ j → ifSound j (fillVoice (readSheet sheet) s r) ≡ gives block
+    go : (j : Judged) → judged sheet ≡ j → ifSound j refuses (fillVoice (readSheet sheet) s r) ≡ gives block
         → (judged sheet ≡ judged.Sound) × NoneHolds (rulesOf (readSheet sheet) s r)
     go judged.Sound p e = (p, no-rule (readSheet sheet) s r block e)
     go (judged.Refused k) p e = impossible cc

@@ -6,7 +6,7 @@ use mathlib.Core.Path.{_≡_}
 use lib.Dec.{T, ltb}
 use lib.ListN.{length}
 use Rattle.refusal.specs.Numbers.{compression, octaveTotal, textIllFormed, sampleLengths, formLength}
-use Rattle.refusal.specs.Outcome.{Outcome}
+use Rattle.refusal.specs.Outcome.{Outcome, refuses}
 use Rattle.header.specs.Octaves.{totalSamples}
 use Rattle.body_read.specs.Sides.{Sides, lengthsSuit}
 use Rattle.sheet.specs.Voice.{Voice, isStereo}
@@ -37,10 +37,10 @@ sheet-within sheet =
     (λ refused. refused)
 
 -- what follows for a sheet that is sound
-pub if-sound-within : {A : Type 0} (numbers : List ℕ) → T (areOf numbers sheetNumbers) → (sheet : List ℕ) (o : Outcome A) → Within numbers o → Within numbers (ifSound (judged sheet) o)
+pub if-sound-within : {A : Type 0} (numbers : List ℕ) → T (areOf numbers sheetNumbers) → (sheet : List ℕ) (o : Outcome A) → Within numbers o → Within numbers (ifSound (judged sheet) refuses o)
 if-sound-within {A} numbers t sheet o w = go (judged sheet) (sheet-within sheet)
   where
-    go : (j : Judged) → SoundWithin sheetNumbers j → Within numbers (ifSound j o)
+    go : (j : Judged) → SoundWithin sheetNumbers j → Within numbers (ifSound j refuses o)
     go Sound s = w
     go (Refused n) s = all-of numbers sheetNumbers t n s
 

@@ -3,7 +3,7 @@ mod level;
 
 pub use level::on_the_way;
 pub use level::scaled;
-use small_chunks::EgPoint;
+use small_chunks::read_point;
 ghost use mathlib.Core.Path.{_≡_};
 ghost use Prim.Native.Nat.{_-_, _^_, min};
 ghost use Rattle.small_chunks.specs.Envelope.{envelopePoints};
@@ -18,7 +18,7 @@ pub fn level_at_ms(points: &[u8], start: i32, t_ms: u64) -> i32
     let mut left = t_ms;
     let mut at = 0;
     while 6 <= points.len() - at {
-        let p = EgPoint::read(points, at);
+        let p = read_point(points, at);
         let duration = p.duration_ms as u64;
         if left < duration {
             return on_the_way(level, p.dest, left as u16, p.duration_ms);
@@ -37,7 +37,7 @@ pub fn total_duration_ms(points: &[u8]) -> u64
     let mut sum: u64 = 0;
     let mut at = 0;
     while 6 <= points.len() - at {
-        let p = EgPoint::read(points, at);
+        let p = read_point(points, at);
         let duration = p.duration_ms as u64;
         if 0xffff_ffff_ffff_ffff - sum < duration {
             return 0xffff_ffff_ffff_ffff;

@@ -1,7 +1,7 @@
 -- The laws of the kinds, of the first bad chunk and of the chunks of a name.
 --     kind-name, kind-none                            a name's kind
---     size-least, size-unit, channel-value            what a right payload has
---     first-hit .. all-miss, bad-here, bad-later      what one answer of the walk does to each
+--     size-least, size-unit                           what a right payload has
+--     all-hit, all-miss, bad-here, bad-later          what one answer of the walk does to each
 --     sound-at, never-refused                         the walk of a FORM that has no bad chunk
 --     first-sound, all-sound                          its chunks of a name are right
 -- Assumes nothing.
@@ -9,9 +9,8 @@ use Prim.Native.Nat.{ℕ, zero, suc, _+_, _-_, _%_, _≤_, _<_}
 use borrow.Author.Tests.{eq-eqb, ne-eqb, eqb-true, ltb-true, ltb-false, not-false}
 use lib.Dec.{eqb, ltb, ltb→lt, eqb→eq}
 use lib.ListN.{length, getD, take, drop, set}
-use mathlib.Core.Bool.{Bool, true, false, cond, not, _||_}
+use mathlib.Core.Bool.{Bool, true, false, cond, not}
 use mathlib.Core.List.{List, [], _∷_}
-use mathlib.Core.Logic.{_⊎_, inl, inr}
 use mathlib.Core.Option.{some}
 use mathlib.Core.Path.{_≡_, refl}
 use native.Mathlib.Omega.{arith}
@@ -61,18 +60,6 @@ module _ (kind n : ℕ) where
   size-unit e =
       eqb-true (n % getD unit kind 0) 0 (not-false (eqb (n % getD unit kind 0) 0) (neither (ltb n (getD least kind 0)) (not (eqb (n % getD unit kind 0) 0)) e .1))
 
--- ---- a right CHAN
-
-pub channel-value : (b : List ℕ) → channelWrong 2 b ≡ false → (bigEndian 4 b ≡ 2) ⊎ ((bigEndian 4 b ≡ 4) ⊎ (bigEndian 4 b ≡ 6))
-unfolding channelWrong
-channel-value b e = go (eqb (bigEndian 4 b) 2) (eqb (bigEndian 4 b) 4) refl refl (not-false (eqb (bigEndian 4 b) 2 || eqb (bigEndian 4 b) 4 || eqb (bigEndian 4 b) 6) e)
-  where
-    go : (u v : Bool) → eqb (bigEndian 4 b) 2 ≡ u → eqb (bigEndian 4 b) 4 ≡ v → (u || v || eqb (bigEndian 4 b) 6) ≡ true
-        → (bigEndian 4 b ≡ 2) ⊎ ((bigEndian 4 b ≡ 4) ⊎ (bigEndian 4 b ≡ 6))
-    go true v p q h = inl (eqb-true (bigEndian 4 b) 2 p)
-    go false true p q h = inr (inl (eqb-true (bigEndian 4 b) 4 q))
-    go false false p q h = inr (inr (eqb-true (bigEndian 4 b) 6 h))
-
 -- ---- a right chunk
 
 -- a payload that the rules of its name accept: its length, and the value of a CHAN
@@ -101,14 +88,6 @@ wrong-none came id b = go came (lengthWrong (kindOf id) (length b)) (channelWron
 -- ---- one answer of the walk
 
 module _ (id : ℕ) {f : List ℕ} {at i start n next : ℕ} (w : Whole f at i start n next) where
-  pub first-hit : i ≡ id → firstOf id (itemsFrom f at) ≡ some (take n (drop start f))
-  unfolding firstOf
-  first-hit e = rw (w .items, eq-eqb i id e)
-
-  pub first-miss : (i ≡ id → ⊥) → firstOf id (itemsFrom f at) ≡ firstOf id (itemsFrom f next)
-  unfolding firstOf
-  first-miss h = rw (w .items, ne-eqb i id h)
-
   pub all-hit : i ≡ id → allOf id (itemsFrom f at) ≡ take n (drop start f) ∷ allOf id (itemsFrom f next)
   unfolding allOf
   all-hit e = rw (w .items, eq-eqb i id e)

@@ -1,3 +1,4 @@
 -- The laws of a FORM's chunks.
 pub mod FormLaws
+pub mod FindLaws
 pub mod Unknown

@@ -1,11 +1,10 @@
 -- The chunks of a name.
-use Prim.Native.Nat.{ℕ, _+_, _≤_}
+use Prim.Native.Nat.{ℕ, _+_, _%_}
 use lib.Dec.{eqb}
-use lib.ListN.{length, take, drop}
+use lib.ListN.{length}
 use mathlib.Core.Bool.{cond}
 use mathlib.Core.List.{List, [], _∷_}
 use mathlib.Core.Option.{Option, none, some}
-use mathlib.Core.Path.{_≡_}
 use Rattle.chunk.specs.Chunk.{Item, chunk, bad, itemsFrom}
 use Rattle.form.specs.declared.place.Place.{Place}
 use Rattle.form.specs.declared.place.Place.the-variants.{At, Absent}
@@ -22,17 +21,13 @@ firstOf id [] = none
 firstOf id (bad number ∷ items) = none
 firstOf id (chunk i b ∷ items) = cond (eqb i id) (some b) (firstOf id items)
 
--- the bytes at a place
-abbrev pub payloadAt : List ℕ → Place → Option (List ℕ)
-payloadAt f (At start n) = some (take n (drop start f))
-payloadAt f Absent = none
+-- where the payload of the first chunk of a name lies, its start and its length, if the items begin at `at`: a chunk takes eight bytes,
+-- its payload, and a pad byte after an odd payload
+unfoldable pub placeFrom : ℕ → ℕ → List Item → Place
+placeFrom at id [] = Absent
+placeFrom at id (bad number ∷ items) = Absent
+placeFrom at id (chunk i b ∷ items) = cond (eqb i id) (At (at + 8) (length b)) (placeFrom (at + 8 + length b + length b % 2) id items)
 
--- a place lies within the FORM
-abbrev pub Inside : List ℕ → Place → Type 0
-Inside f (At start n) = start + n ≤ length f
-Inside f Absent = Unit
-
--- a place is that of the first chunk of a name
-pub record Found (f : List ℕ) (id : ℕ) (r : Place) : Type 0 where
-  pub is : payloadAt f r ≡ firstOf id (itemsFrom f 12)
-  pub inside : Inside f r
+-- the same in a FORM, whose chunks begin at 12
+abbrev pub firstPlace : List ℕ → ℕ → Place
+firstPlace f id = placeFrom 12 id (itemsFrom f 12)

@@ -2,16 +2,17 @@
 use Prim.Native.Nat.{ℕ, zero, suc}
 use lib.Dec.{eqb}
 use lib.ListN.{length, getD, set, replicate}
-use mathlib.Core.Bool.{Bool, false, cond, not, _&&_, _||_}
+use mathlib.Core.Bool.{Bool, false, cond, not, _&&_}
 use mathlib.Core.List.{List, [], _∷_}
 use Rattle.refusal.specs.Numbers.{chunkTwice, chunkLength, channelValue}
 use Rattle.field.specs.BigEndian.{bigEndian}
+use Rattle.small_chunks.specs.Channel.{isChannel}
 use Rattle.chunk.specs.Chunk.{Item, chunk, bad}
 use Rattle.form.specs.Kind.{kindOf, lengthWrong, single}
 
--- a CHAN that is not 2, 4 or 6
+-- a CHAN whose value stands for no assignment
 unfoldable pub channelWrong : ℕ → List ℕ → Bool
-channelWrong kind b = eqb kind 2 && not (eqb (bigEndian 4 b) 2 || eqb (bigEndian 4 b) 4 || eqb (bigEndian 4 b) 6)
+channelWrong kind b = eqb kind 2 && not (isChannel (bigEndian 4 b))
 
 -- the lowest number that applies to a chunk, or 0: 5 where one of its kind came before, 6, 7
 unfoldable pub chunkWrong : Bool → ℕ → List ℕ → ℕ

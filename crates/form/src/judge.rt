@@ -1,7 +1,16 @@
 // The first bad chunk of a FORM.
+use crate::names::ATAK;
+use crate::names::BODY;
+use crate::names::CHAN;
+use crate::names::FADE;
+use crate::names::PAN;
+use crate::names::RLSE;
+use crate::names::SEQN;
+use crate::names::VHDR;
 use chunk::ChunkStep;
 use chunk::chunk_at;
 use field::read32;
+use small_chunks::is_channel;
 ghost use mathlib.Core.Path.{_≡_};
 ghost use Prim.Native.Nat.{_≤_, _<_};
 ghost use lib.ListN.{length};
@@ -14,14 +23,14 @@ fn kind_of(id: u32) -> usize
     ensures { λ r. ⌜ (r ≡ kindOf id) × (r < 9) ⌝ }
 {
     match id {
-        0x56484452 => 1,
-        0x4348414E => 2,
-        0x50414E20 => 3,
-        0x5345514E => 4,
-        0x46414445 => 5,
-        0x424F4459 => 6,
-        0x4154414B => 7,
-        0x524C5345 => 8,
+        VHDR => 1,
+        CHAN => 2,
+        PAN => 3,
+        SEQN => 4,
+        FADE => 5,
+        BODY => 6,
+        ATAK => 7,
+        RLSE => 8,
         _ => 0,
     }
 }
@@ -43,7 +52,7 @@ fn is_length_wrong(kind: usize, size: usize) -> bool
     size % UNIT[kind] != 0
 }
 
-// A CHAN that is not 2, 4 or 6: all four bytes count.
+// A CHAN whose value stands for no assignment: all four bytes count.
 fn is_channel_wrong(body: &[u8], kind: usize) -> bool
     requires { ⌜ (kind ≡ 2 → 4 ≤ length (now body)) ⌝ }
     ensures { λ r. ⌜ r ≡ channelWrong kind (now (body .entry)) ⌝ }
@@ -51,10 +60,7 @@ fn is_channel_wrong(body: &[u8], kind: usize) -> bool
     if kind != 2 {
         return false;
     }
-    match read32(body, 0) {
-        2 | 4 | 6 => false,
-        _ => true,
-    }
+    !is_channel(read32(body, 0))
 }
 
 // The refusal of one chunk, the lowest that applies, or 0; `came` says that one of its kind came before it.

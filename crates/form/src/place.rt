@@ -2,7 +2,7 @@
 use chunk::ChunkStep;
 use chunk::chunk_at;
 ghost use mathlib.Core.Path.{_≡_};
-ghost use Rattle.form.specs.Find.{Found};
+ghost use Rattle.form.specs.Find.{firstPlace};
 
 // Where a payload lies: its start and its length.
 pub enum Place {
@@ -11,7 +11,7 @@ pub enum Place {
 }
 
 pub fn find(form: &[u8], id: u32) -> Place
-    ensures { λ r. ⌜ Found (now (form .entry)) id r ⌝ }
+    ensures { λ r. ⌜ r ≡ firstPlace (now (form .entry)) id ⌝ }
 {
     let mut at = 12;
     loop {

@@ -10,3 +10,4 @@ pub use voice_header::ParsedHeader;
 pub use voice_header::SampleCount;
 pub use voice_header::Total;
 pub use voice_header::VoiceHeader;
+pub use voice_header::read_header;

@@ -50,29 +50,29 @@ pub enum Frequency {
     Unknown,
 }
 
-impl VoiceHeader {
-    // The 20 bytes from `at` on.
-    pub fn read(s: &[u8], at: usize) -> Self
-        requires { ⌜ at + 20 ≤ length (now s) ⌝ }
-        ensures { λ r. ⌜ r ≡ headerOf (drop at (now (s .entry))) ⌝ }
-    {
-        let repeat = at + 4;
-        let cycle = at + 8;
-        let rate = at + 12;
-        let octaves = at + 14;
-        let compression = at + 15;
-        let volume = at + 16;
-        VoiceHeader {
-            one_shot_hi_samples: field::read32(s, at),
-            repeat_hi_samples: field::read32(s, repeat),
-            samples_per_hi_cycle: field::read32(s, cycle),
-            samples_per_sec: field::read16(s, rate),
-            ct_octave: s[octaves],
-            compression_byte: s[compression],
-            volume: field::read32(s, volume),
-        }
+// The 20 bytes from `at` on.
+pub fn read_header(s: &[u8], at: usize) -> VoiceHeader
+    requires { ⌜ at + 20 ≤ length (now s) ⌝ }
+    ensures { λ r. ⌜ r ≡ headerOf (drop at (now (s .entry))) ⌝ }
+{
+    let repeat = at + 4;
+    let cycle = at + 8;
+    let rate = at + 12;
+    let octaves = at + 14;
+    let compression = at + 15;
+    let volume = at + 16;
+    VoiceHeader {
+        one_shot_hi_samples: field::read32(s, at),
+        repeat_hi_samples: field::read32(s, repeat),
+        samples_per_hi_cycle: field::read32(s, cycle),
+        samples_per_sec: field::read16(s, rate),
+        ct_octave: s[octaves],
+        compression_byte: s[compression],
+        volume: field::read32(s, volume),
     }
+}
 
+impl VoiceHeader {
     // The header of a VHDR chunk.
     pub fn parse(body: &[u8]) -> ParsedHeader
         ensures { λ r. ⌜ r ≡ parsedHeader (now (body .entry)) ⌝ }
@@ -80,7 +80,7 @@ impl VoiceHeader {
         if body.len() < 20 {
             return ParsedHeader::Refused(refusal::CHUNK_LENGTH);
         }
-        ParsedHeader::Parsed(VoiceHeader::read(body, 0))
+        ParsedHeader::Parsed(read_header(body, 0))
     }
 
     // Its 20 bytes.

@@ -27,7 +27,7 @@ fillVoice v s n frames places =
 
 -- the block of a sheet; 15 to 17 come first
 abbrev pub fillSheet : List ℕ → Sides → Playing → ℕ → ℕ → Outcome (List Frame)
-fillSheet sheet s n frames places = ifSound (judged sheet) (fillVoice (readSheet sheet) s n frames places)
+fillSheet sheet s n frames places = ifSound (judged sheet) refuses (fillVoice (readSheet sheet) s n frames places)
 
 -- what a fill leaves: its answer, the note after it, and what the buffer then holds
 pub record FillResult : Type 0 where

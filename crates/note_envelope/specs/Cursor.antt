@@ -23,8 +23,8 @@ abbrev pub curve : List ℕ → EnvelopeCursor → ℕ → ℤ
 curve part e s = levelFrom part (e .at) (e .before) (e .level) s
 
 -- the end that it stands for
-abbrev pub endOf : List ℕ → EnvelopeCursor → ℕ
-endOf part e = endFrom part (e .at) (e .before)
+abbrev pub cursorEnd : List ℕ → EnvelopeCursor → ℕ
+cursorEnd part e = endFrom part (e .at) (e .before)
 
 -- a cursor that can be moved to a time from t on
 pub record Ready (part : List ℕ) (e : EnvelopeCursor) (t : ℕ) : Type 0 where
@@ -36,15 +36,15 @@ pub record Ready (part : List ℕ) (e : EnvelopeCursor) (t : ℕ) : Type 0 where
 pub record Moved (part : List ℕ) (e : EnvelopeCursor) (t : ℕ) (r : EnvelopeCursor) : Type 0 where
   pub at-is : r .ms ≡ t
   pub now-is : r .now ≡ heldToUnity (curve part e t)
-  pub ended-is : r .ended ≡ leb (endOf part e) t
+  pub ended-is : r .ended ≡ leb (cursorEnd part e) t
   pub ready : Ready part r t
-  pub end-is : endOf part r ≡ endOf part e
+  pub end-is : cursorEnd part r ≡ cursorEnd part e
   pub later : (s : ℕ) → t ≤ s → curve part r s ≡ curve part e s
 
 -- what a cursor says of its own time is so
 pub record Stood (part : List ℕ) (e : EnvelopeCursor) : Type 0 where
   pub now-is : e .now ≡ heldToUnity (curve part e (e .ms))
-  pub ended-is : e .ended ≡ leb (endOf part e) (e .ms)
+  pub ended-is : e .ended ≡ leb (cursorEnd part e) (e .ms)
   pub ready : Ready part e (e .ms)
 
 -- e stands at t on the envelope of a part, begun at `start`, and follows it from there on
@@ -53,5 +53,5 @@ pub record Follows (part : List ℕ) (start : ℤ) (t : ℕ) (e : EnvelopeCursor
   pub now-is : e .now ≡ heldToUnity (levelAt (pointsIn part) start t)
   pub ended-is : e .ended ≡ leb (totalDuration (pointsIn part)) t
   pub ready : Ready part e t
-  pub end-is : endOf part e ≡ totalDuration (pointsIn part)
+  pub end-is : cursorEnd part e ≡ totalDuration (pointsIn part)
   pub later : (s : ℕ) → t ≤ s → curve part e s ≡ levelAt (pointsIn part) start s

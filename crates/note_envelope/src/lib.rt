@@ -1,8 +1,8 @@
 // The joined points of a sheet's attacks or releases, followed by a cursor that only moves on: over a block each point is read once.
 use envelope::on_the_way;
 use sheet_layout::next_member;
-use small_chunks::EgPoint;
 use small_chunks::held_to_unity;
+use small_chunks::read_point;
 ghost use mathlib.Core.Path.{_≡_};
 ghost use Prim.Native.Nat.{_≤_};
 ghost use Rattle.sheet_layout.specs.Members.{Whole};
@@ -29,7 +29,7 @@ fn seek(part: &[u8], e: EnvelopeCursor, t: usize) -> EnvelopeCursor
     let mut at = next_member(part, e.at, 6);
     while at < part.len() {
         let body = at + 1;
-        let p = EgPoint::read(part, body);
+        let p = read_point(part, body);
         let into = t - before;
         let duration = p.duration_ms as usize;
         if into < duration {

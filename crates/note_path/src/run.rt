@@ -1,7 +1,7 @@
 // A path in numbers, and the run in hand.
 use header::VoiceHeader;
 use sheet_layout::next_member;
-use small_chunks::SeqnSegment;
+use small_chunks::read_segment;
 ghost use mathlib.Core.Path.{_≡_};
 ghost use mathlib.Core.Bool.{true, false};
 ghost use Prim.Native.Nat.{_+_, _-_, _*_, _≤_, _<_, _^_};
@@ -121,7 +121,7 @@ fn next_run(p: Path, segments: &[u8], r: Run, q: usize) -> Run
     let mut at = next_member(segments, r.at, 8);
     while at < segments.len() {
         let body = at + 1;
-        let s = SeqnSegment::read(segments, body);
+        let s = read_segment(segments, body);
         let begin = s.start as usize * p.scale;
         let end = s.end as usize * p.scale;
         let past = until + (end - begin);

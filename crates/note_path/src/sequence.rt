@@ -1,7 +1,7 @@
 // The segments of a sequence: whether they may be played, and how long they are together.
 use sheet_layout::next_member;
-use small_chunks::SeqnSegment;
 use small_chunks::Validity;
+use small_chunks::read_segment;
 ghost use mathlib.Core.Path.{_≡_};
 ghost use Prim.Native.Nat.{_^_, min};
 ghost use lib.ListN.{take};
@@ -16,7 +16,7 @@ pub fn sequence_valid(segments: &[u8], hi: u64) -> bool
     let mut at = next_member(segments, 0, 8);
     while at < segments.len() {
         let body = at + 1;
-        let s = SeqnSegment::read(segments, body);
+        let s = read_segment(segments, body);
         match s.validate(hi) {
             Validity::Refused(_) => {
                 return false;
@@ -42,7 +42,7 @@ pub fn sequence_length(segments: &[u8], count: usize) -> usize
             return sum;
         }
         let body = at + 1;
-        let s = SeqnSegment::read(segments, body);
+        let s = read_segment(segments, body);
         sum = capped(sum + s.len() as usize);
         left -= 1;
         let next = at + 9;

@@ -24,14 +24,14 @@ use Rattle.header.specs.declared.«voice_header».VoiceHeader.{VoiceHeader}
 use Rattle.header.specs.declared.«voice_header».SampleCount.{SampleCount}
 use Rattle.header.specs.declared.«voice_header».SampleCount.the-variants as count
 use Rattle.header.proofs.OctaveLaws.{octave-end}
-use Rattle.sheet.specs.Judge.{judged}
+use Rattle.sheet.specs.Judge.{judged, ifSound}
 use Rattle.sheet.specs.Read.{readSheet}
 use Rattle.sheet.specs.Voice.{isStereo}
 use Rattle.sheet.specs.declared.judge.Judged.{Judged}
 use Rattle.sheet.specs.declared.judge.Judged.the-variants.{Sound, Refused}
-use Rattle.octaves.specs.Octave.{octavePart, repeatAfter, afterOneShot, repeatStart, before, from, oneShotPart, repeatPart}
-use Rattle.octaves.specs.Part.{partOf, partAt, Within}
-use Rattle.octaves.specs.Side.{ofSide, frontPart, voiceSide, ifSound, sidePart}
+use Rattle.octaves.specs.Octave.{octavePart, repeatAfter, afterOneShot, repeatStart, partBefore, partFrom, oneShotPart, repeatPart}
+use Rattle.octaves.specs.Part.{partOf, partAt, LiesWithin}
+use Rattle.octaves.specs.Side.{ofSide, frontPart, voiceSide, sidePart}
 use Rattle.octaves.specs.declared.part.Part.{Part}
 use Rattle.octaves.specs.declared.part.Part.the-variants.{At, Absent}
 use Rattle.octaves.specs.declared.side.Side.{Side}
@@ -85,10 +85,10 @@ module _ (h : VoiceHeader) (n k : ℕ) where
     pub octave-there : k < octaves h → totalSamples h ≤ n → octavePart h n k ≡ At (hi h * (2 ^ k - 1)) (hi h * 2 ^ k)
     octave-there l r = octave-at l (omega (arith, octave-end h k l))
 
-  pub octave-within : Within (octavePart h n k) n
+  pub octave-within : LiesWithin (octavePart h n k) n
   unfolding octavePart
   octave-within =
-      let within : Part → Type 0 = λ p. Within p n in
+      let within : Part → Type 0 = λ p. LiesWithin p n in
       let part = At (hi h * (2 ^ k - 1)) (hi h * 2 ^ k) in
       let end = hi h * (2 ^ k - 1) + hi h * 2 ^ k in
       one-of within (cond (eqb k 0) (At 0 n) Absent) (cond (ltb k (octaves h)) (cond (leb end n) part Absent) Absent)
@@ -134,14 +134,14 @@ module _ (P : Part → Type 0) (n : ℕ) (absent : P Absent) (front : (m : ℕ) 
   side-part : (sheet : List ℕ) (side : Side) → P (sidePart sheet side n)
   side-part sheet side = by (judged sheet)
     where
-      by : (j : Judged) → P (ifSound j (voiceSide (readSheet sheet) side n))
+      by : (j : Judged) → P (ifSound j (λ number. Absent) (voiceSide (readSheet sheet) side n))
       by Sound =
           let v = readSheet sheet in
           one-of P (frontPart (v .header) n) Absent (front-part (v .header)) absent (ofSide side true (isStereo (v .channel)))
       by (Refused number) = absent
 
-pub side-within : (sheet : List ℕ) (side : Side) (n : ℕ) → Within (sidePart sheet side n) n
-side-within sheet side n = side-part (λ p. Within p n) n tt (λ m l. omega arith) sheet side
+pub side-within : (sheet : List ℕ) (side : Side) (n : ℕ) → LiesWithin (sidePart sheet side n) n
+side-within sheet side n = side-part (λ p. LiesWithin p n) n tt (λ m l. omega arith) sheet side
 
 -- it begins where its buffer begins
 side-place : (sheet : List ℕ) (side : Side) (n : ℕ) (p : ℕ × ℕ) → partAt (sidePart sheet side n) p ≡ p
@@ -167,22 +167,22 @@ module _ (h : VoiceHeader) (n k : ℕ) where
   pub start-within : (a : ℕ) → repeatStart h n k ≡ count.Samples a → a ≤ n
   start-within a e = split-within (inOctave h (h .«one_shot_hi_samples») k) (inOctave h (h .«repeat_hi_samples») k) n a e
 
-  before-within : (s : SampleCount) → ((a : ℕ) → s ≡ count.Samples a → a ≤ n) → Within (before s) n
+  before-within : (s : SampleCount) → ((a : ℕ) → s ≡ count.Samples a → a ≤ n) → LiesWithin (partBefore s) n
   before-within (count.Samples a) l = omega (arith, l a refl)
   before-within count.Absent l = tt
 
-  from-within : (s : SampleCount) → ((a : ℕ) → s ≡ count.Samples a → a ≤ n) → Within (from s n) n
+  from-within : (s : SampleCount) → ((a : ℕ) → s ≡ count.Samples a → a ≤ n) → LiesWithin (partFrom s n) n
   from-within (count.Samples a) l = omega (arith, l a refl)
   from-within count.Absent l = tt
 
-  pub one-shot-within : Within (oneShotPart h n k) n
+  pub one-shot-within : LiesWithin (oneShotPart h n k) n
   one-shot-within = before-within (repeatStart h n k) start-within
 
-  pub repeat-within : Within (repeatPart h n k) n
+  pub repeat-within : LiesWithin (repeatPart h n k) n
   repeat-within = from-within (repeatStart h n k) start-within
 
 pub split-joined : (h : VoiceHeader) (xs : List ℤ) (k a : ℕ) → repeatStart h (length xs) k ≡ count.Samples a → partOf (oneShotPart h (length xs) k) xs ++ partOf (repeatPart h (length xs) k) xs ≡ xs
 split-joined h xs k a e =
-    ap (λ (s : SampleCount). partOf (before s) xs ++ partOf (from s (length xs)) xs) e
+    ap (λ (s : SampleCount). partOf (partBefore s) xs ++ partOf (partFrom s (length xs)) xs) e
     ∙ ap (λ (l : List ℤ). take a xs ++ l) (take-all (length xs - a) (drop a xs) (omega (arith, length-drop a xs)))
     ∙ take-append-drop a xs

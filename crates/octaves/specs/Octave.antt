@@ -34,19 +34,19 @@ abbrev pub repeatStart : VoiceHeader → ℕ → ℕ → SampleCount
 repeatStart h n k = afterOneShot (inOctave h (h .«one_shot_hi_samples») k) (repeatFrom h n k)
 
 -- the part before it
-abbrev pub before : SampleCount → Part
-before (count.Samples start) = At 0 start
-before count.Absent = Absent
+abbrev pub partBefore : SampleCount → Part
+partBefore (count.Samples start) = At 0 start
+partBefore count.Absent = Absent
 
 -- the part from it on
-abbrev pub from : SampleCount → ℕ → Part
-from (count.Samples start) n = At start (n - start)
-from count.Absent n = Absent
+abbrev pub partFrom : SampleCount → ℕ → Part
+partFrom (count.Samples start) n = At start (n - start)
+partFrom count.Absent n = Absent
 
 -- the one-shot part of octave k, which has n samples
 abbrev pub oneShotPart : VoiceHeader → ℕ → ℕ → Part
-oneShotPart h n k = before (repeatStart h n k)
+oneShotPart h n k = partBefore (repeatStart h n k)
 
 -- its repeat part
 abbrev pub repeatPart : VoiceHeader → ℕ → ℕ → Part
-repeatPart h n k = from (repeatStart h n k) n
+repeatPart h n k = partFrom (repeatStart h n k) n

@@ -17,6 +17,6 @@ partAt (At start n) p = (p .0, p .1 + start)
 partAt Absent p = p
 
 -- it lies within so many places
-abbrev pub Within : Part → ℕ → Type 0
-Within (At start n) places = start + n ≤ places
-Within Absent places = Unit
+abbrev pub LiesWithin : Part → ℕ → Type 0
+LiesWithin (At start n) places = start + n ≤ places
+LiesWithin Absent places = Unit

@@ -6,10 +6,8 @@ use lib.Dec.{eqb, leb}
 use Rattle.header.specs.Octaves.{hi, totalSamples}
 use Rattle.header.specs.declared.«voice_header».VoiceHeader.{VoiceHeader}
 use Rattle.sheet.specs.Voice.{Voice, isStereo}
-use Rattle.sheet.specs.Judge.{judged}
+use Rattle.sheet.specs.Judge.{judged, ifSound}
 use Rattle.sheet.specs.Read.{readSheet}
-use Rattle.sheet.specs.declared.judge.Judged.{Judged}
-use Rattle.sheet.specs.declared.judge.Judged.the-variants.{Sound, Refused}
 use Rattle.octaves.specs.declared.part.Part.{Part}
 use Rattle.octaves.specs.declared.part.Part.the-variants.{At, Absent}
 use Rattle.octaves.specs.declared.side.Side.{Side}
@@ -28,11 +26,6 @@ frontPart h places = cond (eqb (hi h) 0) (At 0 places) (cond (leb (totalSamples 
 abbrev pub voiceSide : Voice → Side → ℕ → Part
 voiceSide v side places = cond (ofSide side true (isStereo (v .channel))) (frontPart (v .header) places) Absent
 
--- what follows for a sheet that is accepted
-abbrev pub ifSound : Judged → Part → Part
-ifSound Sound part = part
-ifSound (Refused number) part = Absent
-
--- a side of a sheet
+-- a side of a sheet: a sheet that is refused has none
 abbrev pub sidePart : List ℕ → Side → ℕ → Part
-sidePart sheet side places = ifSound (judged sheet) (voiceSide (readSheet sheet) side places)
+sidePart sheet side places = ifSound (judged sheet) (λ number. Absent) (voiceSide (readSheet sheet) side places)

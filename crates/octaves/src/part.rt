@@ -1,7 +1,7 @@
 // A part of a slice.
 ghost use mathlib.Core.Path.{_≡_};
 ghost use lib.ListN.{length};
-ghost use Rattle.octaves.specs.Part.{partOf, partAt, Within};
+ghost use Rattle.octaves.specs.Part.{partOf, partAt, LiesWithin};
 
 pub enum Part {
     // Its start and its length.
@@ -12,7 +12,7 @@ pub enum Part {
 
 // The part itself; an empty one, at the slice's start, where there is none.
 pub(crate) fn part_of<'a>(samples: &'a [i8], part: Part) -> &'a [i8]
-    requires { ⌜ Within part (length (now samples)) ⌝ }
+    requires { ⌜ LiesWithin part (length (now samples)) ⌝ }
     ensures contents { λ r. ⌜ now r ≡ partOf part (now (samples .entry)) ⌝ }
     ensures place { λ r. ⌜ r .ptr ≡ partAt part (samples .entry .ptr) ⌝ }
 {

@@ -17,7 +17,7 @@ use Rattle.sheet.proofs.TextLaws.{textsLeft, text-byte, text-begins, te
 use Rattle.sheet.specs.Judge.{textsWellFormed, judgedItems}
 use Rattle.sheet.specs.Order.{earliest, latest, belongs, misplaced, groupAfter, valueWrong, firstWrong}
 use Rattle.sheet.specs.Read.{leading, groups}
-use Rattle.sheet.specs.Record.{Item, entry, bad, records, bodyLength}
+use Rattle.sheet.specs.Record.{RecordItem, entry, bad, records, bodyLength}
 use Rattle.sheet.specs.TextState.{Texts, noTexts, textsAfter, allWell}
 use Rattle.sheet.specs.declared.judge.Judged.{Judged}
 use Rattle.sheet.specs.declared.judge.Judged.the-variants.{Sound, Refused}
@@ -27,12 +27,12 @@ abbrev pub verdict : ℕ → Bool → Judged
 verdict number well = cond (eqb number 0) (cond well Sound (Refused textIllFormed)) (Refused number)
 
 -- the verdict of what is left, with this group in hand and the texts so far
-unfoldable pub judgedFrom : ℕ → Texts → List Item → Judged
+unfoldable pub judgedFrom : ℕ → Texts → List RecordItem → Judged
 judgedFrom group t items = verdict (firstWrong group items) (textsLeft t items)
 
 -- ---- a record 11 is misplaced where no text is in hand, so nothing is left of one
 
-outside : (g : ℕ) → g < 10 → (t : Texts) (items : List Item) → judgedFrom g t items ≡ verdict (firstWrong g items) (allWell t && textsWellFormed (groups 10 11 items))
+outside : (g : ℕ) → g < 10 → (t : Texts) (items : List RecordItem) → judgedFrom g t items ≡ verdict (firstWrong g items) (allWell t && textsWellFormed (groups 10 11 items))
 unfolding judgedFrom firstWrong leading
 outside g h t [] = refl
 outside g h t (bad number ∷ items) = refl
@@ -56,13 +56,13 @@ group-below g k h p = go (belongs k) (omega (arith, latest-below k h, ltb-false 
 
 -- ---- before the first record
 
-pub judged-start : (items : List Item) → judgedFrom 0 noTexts items ≡ judgedItems items
+pub judged-start : (items : List RecordItem) → judgedFrom 0 noTexts items ≡ judgedItems items
 unfolding judgedItems
 judged-start items = outside 0 (omega arith) noTexts items
 
 -- ---- at the end, with what is left of the sheet
 
-module _ (g : ℕ) (t : Texts) {items : List Item} where
+module _ (g : ℕ) (t : Texts) {items : List RecordItem} where
   pub judged-cut : (number : ℕ) → items ≡ bad number ∷ [] → (number ≡ 0 → ⊥) → judgedFrom g t items ≡ Refused number
   unfolding judgedFrom firstWrong
   judged-cut number e h = rw (e, ne-eqb number 0 h)
@@ -79,7 +79,7 @@ module _ (g : ℕ) (t : Texts) {items : List Item} where
 -- ---- a record
 
 -- what it says of the texts
-texts-on : (g k : ℕ) (t : Texts) (body : List ℕ) (items : List Item) → misplaced g k ≡ false → k < 12 → length body ≡ bodyLength k
+texts-on : (g k : ℕ) (t : Texts) (body : List ℕ) (items : List RecordItem) → misplaced g k ≡ false → k < 12 → length body ≡ bodyLength k
     → verdict (firstWrong (groupAfter g k) items) (textsLeft t (entry k body ∷ items)) ≡ judgedFrom (groupAfter g k) (textsAfter t k (getD body 0 0)) items
 unfolding judgedFrom
 texts-on g k t body items p known sized = go (eqb k 11) (eqb k 10) refl refl

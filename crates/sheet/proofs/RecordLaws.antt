@@ -16,33 +16,33 @@ use Rattle.laws.proofs.Cases.{impossible}
 use Rattle.laws.proofs.WalkLaws.{walk-more, walk-last}
 use Rattle.laws.specs.Walk.{last, walk}
 use Rattle.refusal.specs.Numbers.{recordCut, recordWrong}
-use Rattle.sheet.specs.Record.{bodyLength, unknownKind, Head, headOf, firstItem, records, placed, recordAt, whole, refused, none, entry, bad}
+use Rattle.sheet.specs.Record.{bodyLength, unknownKind, RecordHead, recordHead, firstRecord, records, recordPlaced, recordAt, whole, refused, none, entry, bad}
 use Rattle.sheet.specs.declared.record.RecordStep.the-variants.{Record, Refused, End}
 
 -- ---- the answers, from what the code tests
 
 module _ (s : List ℕ) (at : ℕ) where
   pub at-end : length s ≤ at → recordAt s at ≡ End
-  unfolding recordAt headOf
+  unfolding recordAt recordHead
   at-end h = rw (drop-of-length-le s h)
 
   module _ (h : at < length s) where
     pub at-zero : getD s at 0 ≡ 0 → recordAt s at ≡ Refused recordWrong
-    unfolding recordAt headOf
+    unfolding recordAt recordHead
     at-zero e = rw (drop-cons s at 0 h, e)
 
     module _ (pos : getD s at 0 ≡ 0 → ⊥) where
       pub at-unknown : 11 < getD s at 0 → recordAt s at ≡ Refused recordWrong
-      unfolding recordAt headOf
+      unfolding recordAt recordHead
       at-unknown k = rw (drop-cons s at 0 h, ne-eqb (getD s at 0) 0 pos, lt-ltb 11 (getD s at 0) k)
 
       module _ (known : getD s at 0 ≤ 11) where
         pub at-cut : length s - (at + 1) < bodyLength (getD s at 0) → recordAt s at ≡ Refused recordCut
-        unfolding recordAt headOf
+        unfolding recordAt recordHead
         at-cut k = rw (drop-cons s at 0 h, ne-eqb (getD s at 0) 0 pos, le-ltb 11 (getD s at 0) known, length-drop, ← add-one at, lt-ltb _ _ k)
 
         pub at-whole : bodyLength (getD s at 0) ≤ length s - (at + 1) → recordAt s at ≡ Record (getD s at 0) (at + 1) (at + 1 + bodyLength (getD s at 0))
-        unfolding recordAt headOf
+        unfolding recordAt recordHead
         at-whole k = rw (drop-cons s at 0 h, ne-eqb (getD s at 0) 0 pos, le-ltb 11 (getD s at 0) known, length-drop, ← add-one at, le-ltb _ _ k)
 
 -- ---- what an answer says of the records
@@ -58,12 +58,12 @@ pub record Whole (s : List ℕ) (at k start next : ℕ) : Type 0 where
   pub on : at < next
   pub begun : at < length s
 
-nil-front : firstItem (headOf []) [] ≡ last []
-unfolding headOf
+nil-front : firstRecord (recordHead []) [] ≡ last []
+unfolding recordHead
 nil-front = refl
 
-head-fits : (l : List ℕ) (k : ℕ) → headOf l ≡ whole k → (suc (bodyLength k) ≤ length l) × (k < 12)
-unfolding headOf
+head-fits : (l : List ℕ) (k : ℕ) → recordHead l ≡ whole k → (suc (bodyLength k) ≤ length l) × (k < 12)
+unfolding recordHead
 head-fits [] k e = impossible cc
 head-fits (x ∷ l) k e = go (eqb x 0) (ltb 11 x) (ltb (length l) (bodyLength x)) refl refl e
   where
@@ -76,8 +76,8 @@ head-fits (x ∷ l) k e = go (eqb x 0) (ltb 11 x) (ltb (length l) (bodyLength x)
         let m : x ≡ k = cc in
         rw (← m) (omega (arith, ltb-false (length l) (bodyLength x) q), omega (arith, ltb-false 11 x p))
 
-head-number : (l : List ℕ) (r : ℕ) → headOf l ≡ refused r → (r ≡ recordCut) ⊎ (r ≡ recordWrong)
-unfolding headOf
+head-number : (l : List ℕ) (r : ℕ) → recordHead l ≡ refused r → (r ≡ recordCut) ⊎ (r ≡ recordWrong)
+unfolding recordHead
 head-number [] r e = impossible cc
 head-number (x ∷ l) r e = go (unknownKind x) (ltb (length l) (bodyLength x)) e
   where
@@ -89,36 +89,36 @@ head-number (x ∷ l) r e = go (unknownKind x) (ltb (length l) (bodyLength x)) e
 module _ (s : List ℕ) (at : ℕ) where
   pub is-end : recordAt s at ≡ End → records (drop at s) ≡ []
   unfolding recordAt records
-  is-end = go (headOf (drop at s)) refl
+  is-end = go (recordHead (drop at s)) refl
     where
-      go : (h : Head) → headOf (drop at s) ≡ h → placed at h ≡ End → walk (λ l. firstItem (headOf l) l) 0 (drop at s) ≡ []
+      go : (h : RecordHead) → recordHead (drop at s) ≡ h → recordPlaced at h ≡ End → walk (λ l. firstRecord (recordHead l) l) 0 (drop at s) ≡ []
       go (whole k) p e = impossible cc
       go (refused q) p e = impossible cc
       go none p e = walk-last _ nil-front (drop at s) [] (rw p)
 
   pub is-refused : (r : ℕ) → recordAt s at ≡ Refused r → records (drop at s) ≡ bad r ∷ []
   unfolding recordAt records
-  is-refused r = go (headOf (drop at s)) refl
+  is-refused r = go (recordHead (drop at s)) refl
     where
-      go : (h : Head) → headOf (drop at s) ≡ h → placed at h ≡ Refused r → walk (λ l. firstItem (headOf l) l) 0 (drop at s) ≡ bad r ∷ []
+      go : (h : RecordHead) → recordHead (drop at s) ≡ h → recordPlaced at h ≡ Refused r → walk (λ l. firstRecord (recordHead l) l) 0 (drop at s) ≡ bad r ∷ []
       go (whole k) p e = impossible cc
       go (refused q) p e = let eq : q ≡ r = cc in rw (← eq) (walk-last _ nil-front (drop at s) (bad q ∷ []) (rw p))
       go none p e = impossible cc
 
   pub is-number : (r : ℕ) → recordAt s at ≡ Refused r → (r ≡ recordCut) ⊎ (r ≡ recordWrong)
   unfolding recordAt
-  is-number r = go (headOf (drop at s)) refl
+  is-number r = go (recordHead (drop at s)) refl
     where
-      go : (h : Head) → headOf (drop at s) ≡ h → placed at h ≡ Refused r → (r ≡ recordCut) ⊎ (r ≡ recordWrong)
+      go : (h : RecordHead) → recordHead (drop at s) ≡ h → recordPlaced at h ≡ Refused r → (r ≡ recordCut) ⊎ (r ≡ recordWrong)
       go (whole k) p e = impossible cc
       go (refused q) p e = let eq : q ≡ r = cc in head-number (drop at s) r (rw eq at p)
       go none p e = impossible cc
 
   pub is-record : (k start next : ℕ) → recordAt s at ≡ Record k start next → Whole s at k start next
   unfolding recordAt records
-  is-record k start next = go (headOf (drop at s)) refl
+  is-record k start next = go (recordHead (drop at s)) refl
     where
-      go : (h : Head) → headOf (drop at s) ≡ h → placed at h ≡ Record k start next → Whole s at k start next
+      go : (h : RecordHead) → recordHead (drop at s) ≡ h → recordPlaced at h ≡ Record k start next → Whole s at k start next
       go (whole j) p e =
           let ek : j ≡ k = cc in
           let es : at + 1 ≡ start = cc in
@@ -129,7 +129,7 @@ module _ (s : List ℕ) (at : ℕ) where
           let size : bodyLength j ≡ next - start = omega arith in
           let body : drop 1 (drop at s) ≡ drop start s = drop-drop 1 at s ∙ ap (λ (n : ℕ). drop n s) es in
           let rest : drop (suc (bodyLength j)) (drop at s) ≡ drop next s = drop-drop (suc (bodyLength j)) at s ∙ ap (λ (n : ℕ). drop n s) past-it in
-          let read = walk-more (λ l. firstItem (headOf l) l) nil-front (drop at s) (entry j (take (bodyLength j) (drop 1 (drop at s)))) (bodyLength j) (rw p) in
+          let read = walk-more (λ l. firstRecord (recordHead l) l) nil-front (drop at s) (entry j (take (bodyLength j) (drop 1 (drop at s)))) (bodyLength j) (rw p) in
           record {
             items = cc (read, body, rest, ek, size);
             known = rw ek at (fits .1);

@@ -12,17 +12,17 @@ use native.Mathlib.Omega.{arith}
 use Rattle.laws.specs.Walk.{each}
 use Rattle.sheet.specs.Judge.{textsWellFormed}
 use Rattle.sheet.specs.Read.{leading, groups}
-use Rattle.sheet.specs.Record.{Item, entry}
+use Rattle.sheet.specs.Record.{RecordItem, entry}
 use Rattle.sheet.specs.TextState.{Texts, textsAfter, allWell}
 use Rattle.text_utf8.proofs.Theorems.{fed-well}
 use Rattle.text_utf8.specs.Feed.{complete, fedAll}
 
 -- the bytes of the text in hand that are still to come
-abbrev pub textLeft : List Item → List ℕ
+abbrev pub textLeft : List RecordItem → List ℕ
 textLeft items = each (λ body. body) (leading 11 items)
 
 -- all texts are well-formed: those before, the one in hand with what is left of it, and those that begin later
-abbrev pub textsLeft : Texts → List Item → Bool
+abbrev pub textsLeft : Texts → List RecordItem → Bool
 textsLeft t items = not (t .ill) && complete (fedAll (t .lead) (textLeft items)) && textsWellFormed (groups 10 11 items)
 
 one-byte : (body : List ℕ) → length body ≡ 1 → body ≡ getD body 0 0 ∷ []
@@ -37,7 +37,7 @@ ended true false later rest = refl
 ended false true later rest = refl
 ended false false later rest = refl
 
-module _ (t : Texts) (body : List ℕ) (items : List Item) where
+module _ (t : Texts) (body : List ℕ) (items : List RecordItem) where
   -- a record 11 is one byte more
   pub text-byte : length body ≡ 1 → textsLeft t (entry 11 body ∷ items) ≡ textsLeft (textsAfter t 11 (getD body 0 0)) items
   unfolding textsAfter leading groups

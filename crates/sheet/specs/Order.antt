@@ -2,10 +2,11 @@
 use Prim.Native.Nat.{ℕ}
 use lib.Dec.{eqb, ltb}
 use lib.ListN.{getD}
-use mathlib.Core.Bool.{Bool, true, false, cond, not, _&&_, _||_}
+use mathlib.Core.Bool.{Bool, cond, not, _&&_, _||_}
 use mathlib.Core.List.{List, [], _∷_}
 use Rattle.refusal.specs.Numbers.{recordWrong}
-use Rattle.sheet.specs.Record.{Item, entry, bad}
+use Rattle.small_chunks.specs.Channel.{isChannel}
+use Rattle.sheet.specs.Record.{RecordItem, entry, bad}
 
 -- The group in hand is named by the kind that opened it: 1 header, 2 channel, 3 pan, 4 attack, 5 release, 7 sequence, 9 fade,
 -- 10 text, and 0 before the header. Kinds 6, 8 and 11 belong to the group in hand. A kind may come where the group in hand is
@@ -30,20 +31,16 @@ misplaced group kind = ltb group (getD earliest kind 0) || ltb (getD latest kind
 abbrev pub groupAfter : ℕ → ℕ → ℕ
 groupAfter group kind = cond (belongs kind) group kind
 
--- the channels are 2, 4 and 6
-abbrev pub channelKnown : ℕ → Bool
-channelKnown v = eqb v 2 || eqb v 4 || eqb v 6
-
 -- the texts are 1 to 5
 abbrev pub textKnown : ℕ → Bool
 textKnown v = ltb 0 v && ltb v 6
 
 -- a channel or a text's key that is none of them
 unfoldable pub valueWrong : ℕ → ℕ → Bool
-valueWrong kind v = (eqb kind 2 && not (channelKnown v)) || (eqb kind 10 && not (textKnown v))
+valueWrong kind v = (eqb kind 2 && not (isChannel v)) || (eqb kind 10 && not (textKnown v))
 
 -- the number of the first record that is cut or of unknown kind, or misplaced or of a wrong value (16); 16 where there is no header; else 0
-unfoldable pub firstWrong : ℕ → List Item → ℕ
+unfoldable pub firstWrong : ℕ → List RecordItem → ℕ
 firstWrong group [] = cond (eqb group 0) recordWrong 0
 firstWrong group (bad number ∷ items) = number
 firstWrong group (entry kind body ∷ items) =

@@ -14,11 +14,11 @@ use Rattle.small_chunks.specs.Sequence.{segmentOf, fadeOf}
 use Rattle.small_chunks.specs.declared.channel.ChannelAssignment.{ChannelAssignment}
 use Rattle.small_chunks.specs.declared.channel.ParsedChannel.{ParsedChannel}
 use Rattle.small_chunks.specs.declared.channel.ParsedChannel.the-variants.{Parsed, Refused}
-use Rattle.sheet.specs.Record.{Item, entry, bad, records}
+use Rattle.sheet.specs.Record.{RecordItem, entry, bad, records}
 use Rattle.sheet.specs.Voice.{Text, Voice}
 
 -- the bodies of the records of a kind that stand at the front
-unfoldable pub leading : ℕ → List Item → List (List ℕ)
+unfoldable pub leading : ℕ → List RecordItem → List (List ℕ)
 leading kind [] = []
 leading kind (bad number ∷ items) = []
 leading kind (entry k body ∷ items) = cond (eqb k kind) (body ∷ leading kind items) []
@@ -29,14 +29,14 @@ pub record Group : Type 0 where
   pub members : List (List ℕ)
 
 -- the groups that records of a kind open, with members of another kind
-unfoldable pub groups : ℕ → ℕ → List Item → List Group
+unfoldable pub groups : ℕ → ℕ → List RecordItem → List Group
 groups opens member [] = []
 groups opens member (bad number ∷ items) = []
 groups opens member (entry k body ∷ items) =
     cond (eqb k opens) (record { body = body; members = leading member items } ∷ groups opens member items) (groups opens member items)
 
 -- the bodies of all records of a kind; no record is of kind 0, so there are no members
-abbrev pub bodies : ℕ → List Item → List (List ℕ)
+abbrev pub bodies : ℕ → List RecordItem → List (List ℕ)
 bodies kind items = map (λ g. g .body) (groups kind 0 items)
 
 -- the first of a list, where there is one
@@ -55,9 +55,9 @@ knownChannel (Parsed c) = some c
 knownChannel (Refused number) = none
 
 -- the assignment of a channel record, where there is one
-abbrev pub channelIn : Option (List ℕ) → Option ChannelAssignment
-channelIn none = none
-channelIn (some body) = knownChannel (channelOf (getD body 0 0))
+abbrev pub recordChannel : Option (List ℕ) → Option ChannelAssignment
+recordChannel none = none
+recordChannel (some body) = knownChannel (channelOf (getD body 0 0))
 
 -- the first body, or no bytes
 abbrev pub bodyOf : Option (List ℕ) → List ℕ
@@ -69,10 +69,10 @@ abbrev pub textIn : Group → Text
 textIn g = record { key = getD (g .body) 0 0; bytes = each (λ body. body) (g .members) }
 
 -- the voice of a list of records
-unfoldable pub voiceOf : List Item → Voice
+unfoldable pub voiceOf : List RecordItem → Voice
 voiceOf items = record {
   header = headerOf (bodyOf (first (bodies 1 items)));
-  channel = channelIn (first (bodies 2 items));
+  channel = recordChannel (first (bodies 2 items));
   pan = mapOption panOf (first (bodies 3 items));
   attacks = map (λ g. map pointOf (g .members)) (groups 4 6 items);
   releases = map (λ g. map pointOf (g .members)) (groups 5 6 items);

@@ -22,37 +22,37 @@ abbrev pub unknownKind : ℕ → Bool
 unknownKind kind = eqb kind 0 || ltb 11 kind
 
 -- what stands at the front: a whole record of a kind, or a refusal, or the end
-pub data Head : Type 0 where
-  whole : ℕ → Head
-  refused : ℕ → Head
-  none : Head
+pub data RecordHead : Type 0 where
+  whole : ℕ → RecordHead
+  refused : ℕ → RecordHead
+  none : RecordHead
 
 -- an unknown kind is refused by 16, then a body that the sheet's end cuts off by 15
-unfoldable pub headOf : List ℕ → Head
-headOf [] = none
-headOf (kind ∷ l) = cond (unknownKind kind) (refused recordWrong) (cond (ltb (length l) (bodyLength kind)) (refused recordCut) (whole kind))
+unfoldable pub recordHead : List ℕ → RecordHead
+recordHead [] = none
+recordHead (kind ∷ l) = cond (unknownKind kind) (refused recordWrong) (cond (ltb (length l) (bodyLength kind)) (refused recordCut) (whole kind))
 
 -- a record: its kind and its body; or the one bad record at which the reading ends, by its number
-pub data Item : Type 0 where
-  entry : ℕ → List ℕ → Item
-  bad : ℕ → Item
+pub data RecordItem : Type 0 where
+  entry : ℕ → List ℕ → RecordItem
+  bad : ℕ → RecordItem
 
 -- the first item and how many bytes it takes past its first
-abbrev pub firstItem : Head → List ℕ → Front Item
-firstItem (whole kind) l = more (entry kind (take (bodyLength kind) (drop 1 l))) (bodyLength kind)
-firstItem (refused number) l = last (bad number ∷ [])
-firstItem none l = last []
+abbrev pub firstRecord : RecordHead → List ℕ → Front RecordItem
+firstRecord (whole kind) l = more (entry kind (take (bodyLength kind) (drop 1 l))) (bodyLength kind)
+firstRecord (refused number) l = last (bad number ∷ [])
+firstRecord none l = last []
 
 -- the records of a sheet
-unfoldable pub records : List ℕ → List Item
-records sheet = walk (λ l. firstItem (headOf l) l) 0 sheet
+unfoldable pub records : List ℕ → List RecordItem
+records sheet = walk (λ l. firstRecord (recordHead l) l) 0 sheet
 
 -- the record at a place: its kind, its body's place and the place past it
-abbrev pub placed : ℕ → Head → RecordStep
-placed at (whole kind) = Record kind (at + 1) (at + 1 + bodyLength kind)
-placed at (refused number) = Refused number
-placed at none = End
+abbrev pub recordPlaced : ℕ → RecordHead → RecordStep
+recordPlaced at (whole kind) = Record kind (at + 1) (at + 1 + bodyLength kind)
+recordPlaced at (refused number) = Refused number
+recordPlaced at none = End
 
 -- what stands at a place; a place past the end is the end
 unfoldable pub recordAt : List ℕ → ℕ → RecordStep
-recordAt sheet at = placed at (headOf (drop at sheet))
+recordAt sheet at = recordPlaced at (recordHead (drop at sheet))

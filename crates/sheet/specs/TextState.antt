@@ -15,8 +15,8 @@ pub record Texts : Type 0 where
   pub ill : Bool
 
 -- what the code's state says
-abbrev pub textsOf : TextState → Texts
-textsOf s = record { lead = led (s .lead); ill = s .ill }
+abbrev pub textStateOf : TextState → Texts
+textStateOf s = record { lead = led (s .lead); ill = s .ill }
 
 -- before the first record
 abbrev pub noTexts : Texts

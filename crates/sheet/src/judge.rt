@@ -1,6 +1,7 @@
 // A sheet judged in one pass: kinds, order and values, and the texts byte by byte beside them.
 use crate::record::RecordStep;
 use crate::record::record_at;
+use small_chunks::is_channel;
 use text_utf8::Lead;
 use text_utf8::between;
 use text_utf8::feed;
@@ -9,7 +10,7 @@ ghost use mathlib.Core.Path.{_≡_};
 ghost use Prim.Native.Nat.{_<_};
 ghost use lib.ListN.{getD};
 ghost use Rattle.sheet.specs.Order.{misplaced, groupAfter, valueWrong};
-ghost use Rattle.sheet.specs.TextState.{textsOf, noTexts, textsAfter, allWell};
+ghost use Rattle.sheet.specs.TextState.{textStateOf, noTexts, textsAfter, allWell};
 ghost use Rattle.sheet.specs.Judge.{judged};
 
 pub enum Judged {
@@ -51,18 +52,12 @@ fn group_after(group: u8, kind: u8) -> u8
     kind
 }
 
-// A channel that is not 2, 4 or 6, or a text's key that is not 1 to 5.
+// A channel whose value stands for no assignment, or a text's key that is not 1 to 5.
 fn is_value_wrong(kind: u8, value: u8) -> bool
     ensures { λ r. ⌜ r ≡ valueWrong kind value ⌝ }
 {
     if kind == 2 {
-        if value == 2 {
-            return false;
-        }
-        if value == 4 {
-            return false;
-        }
-        return value != 6;
+        return !is_channel(value as u32);
     }
     if kind == 10 {
         if value == 0 {
@@ -91,7 +86,7 @@ struct TextState {
 
 impl TextState {
     fn start() -> Self
-        ensures { λ r. ⌜ textsOf r ≡ noTexts ⌝ }
+        ensures { λ r. ⌜ textStateOf r ≡ noTexts ⌝ }
     {
         TextState {
             lead: between(),
@@ -101,7 +96,7 @@ impl TextState {
 
     // After a record: 10 ends the text in hand, and 11 is one byte more of it.
     fn after(self, kind: u8, value: u8) -> Self
-        ensures { λ r. ⌜ textsOf r ≡ textsAfter (textsOf self) kind value ⌝ }
+        ensures { λ r. ⌜ textStateOf r ≡ textsAfter (textStateOf self) kind value ⌝ }
     {
         let lead = self.lead;
         if kind == 11 {
@@ -128,7 +123,7 @@ impl TextState {
 
     // The text in hand, as it stands, and all before it.
     fn is_well_formed(self) -> bool
-        ensures { λ r. ⌜ r ≡ allWell (textsOf self) ⌝ }
+        ensures { λ r. ⌜ r ≡ allWell (textStateOf self) ⌝ }
     {
         if self.ill {
             return false;

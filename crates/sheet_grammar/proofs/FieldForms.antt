@@ -1,13 +1,13 @@
 -- How each kind's bodies are written and read: the fields by the laws of their crates; a channel, a text's key and a text's byte by what one byte may be.
 -- Assumes nothing.
 use Prim.Native.Nat.{ℕ, _≤_, _<_}
-use mathlib.Core.Bool.{Bool, true, false, not, _||_, true≢false, and-eq-true-iff}
+use mathlib.Core.Bool.{false, not, and-eq-true-iff}
 use mathlib.Core.List.{List, [], _∷_}
 use mathlib.Core.Option.{some}
 use mathlib.Core.Path.{_≡_, refl, sym, ap, _∙_}
 use native.Mathlib.Omega.{arith}
-use borrow.Author.Tests.{lt-ltb, ltb-true, not-false, eqb-true}
-use lib.Dec.{eqb, ltb}
+use borrow.Author.Tests.{lt-ltb, ltb-true, not-false}
+use lib.Dec.{ltb}
 use lib.ListN.{getD, drop}
 use mir.Syntax.{w32}
 use mir.Val.{SFits}
@@ -18,15 +18,16 @@ use Rattle.field.proofs.BigEndianLaws.{bytes-drop, number-fits}
 use Rattle.field.proofs.SignedLaws.{read-is}
 use Rattle.header.specs.Header.{headerOf, headerBytes, Fitting}
 use Rattle.header.proofs.HeaderLaws.{header-length, header-back, bytes-back, header-fits}
-use Rattle.small_chunks.specs.Channel.{channelOf, channelValueOf}
+use Rattle.laws.proofs.Cases.{neither}
+use Rattle.small_chunks.specs.Channel.{channelOf, isChannel, channelValueOf}
 use Rattle.small_chunks.specs.Pan.{panOf, panBytes}
 use Rattle.small_chunks.specs.Envelope.{pointOf, pointBytes}
 use Rattle.small_chunks.specs.Sequence.{segmentOf, segmentBytes, fadeOf, fadeBytes}
 use Rattle.small_chunks.specs.declared.channel.ChannelAssignment.{ChannelAssignment}
-use Rattle.small_chunks.specs.declared.channel.ChannelAssignment.the-variants.{Left, Right, Stereo}
+use Rattle.small_chunks.specs.declared.channel.ChannelAssignment.the-variants.{Left}
 use Rattle.small_chunks.specs.declared.channel.ParsedChannel.{ParsedChannel}
 use Rattle.small_chunks.specs.declared.channel.ParsedChannel.the-variants.{Parsed, Refused}
-use Rattle.small_chunks.proofs.ChannelLaws.{channel-back}
+use Rattle.small_chunks.proofs.ChannelLaws.{channel-back, channel-known, channel-assigned}
 use Rattle.small_chunks.proofs.FieldLaws.{point-length, segment-length, pan-length, fade-length, point-back, segment-back, pan-back, fade-back, point-again, segment-again, pan-again, fade-again}
 use Rattle.sheet.specs.Allowed.{PanFits, PointFits, SegmentFits, FadeFits}
 use Rattle.sheet.specs.Read.{knownChannel}
@@ -66,13 +67,7 @@ fade-body = field-form 9 fadeBytes fadeOf refl (λ v. refl) fade-length (λ s re
 -- a value that is not wrong is that of an assignment
 assigned : (v : ℕ) → valueWrong 2 v ≡ false → (c : ChannelAssignment) × (channelValueOf c ≡ v)
 unfolding valueWrong
-assigned v h = go (eqb v 2) (eqb v 4) (eqb v 6) refl refl refl h
-  where
-    go : (a b c : Bool) → eqb v 2 ≡ a → eqb v 4 ≡ b → eqb v 6 ≡ c → (not (a || b || c) || false) ≡ false → (c : ChannelAssignment) × (channelValueOf c ≡ v)
-    go true b c e f g h = (Left, sym (eqb-true v 2 e))
-    go false true c e f g h = (Right, sym (eqb-true v 4 f))
-    go false false true e f g h = (Stereo, sym (eqb-true v 6 g))
-    go false false false e f g h = absurd (true≢false h)
+assigned v h = channel-assigned v (not-false (isChannel v) (neither (not (isChannel v)) false h .0))
 
 -- the assignment that was read, and any where none was
 abbrev pub assignment : ParsedChannel → ChannelAssignment
@@ -91,9 +86,7 @@ module _ (v : ℕ) (h : valueWrong 2 v ≡ false) where
 
 channel-right : (c : ChannelAssignment) → Unit {0} → valueWrong 2 (channelValueOf c) ≡ false
 unfolding valueWrong
-channel-right Left h = refl
-channel-right Right h = refl
-channel-right Stereo h = refl
+channel-right c h = rw (channel-known c)
 
 pub channel-body : Form (λ c. Unit {0}) (Correct 2) (Given 2) (λ c. channelValueOf c ∷ []) (λ b. assignment (channelOf (getD b 0 0)))
 channel-body = byte-form 2 channelValueOf (λ v. assignment (channelOf v)) refl refl channel-right (λ c h. ap assignment (channel-back c)) channel-again (λ v s h. tt)

@@ -6,7 +6,7 @@ use mathlib.Core.Path.{_≡_, refl, sym, ap, _∙_}
 use Rattle.sheet.specs.Voice.{Voice}
 use Rattle.sheet.specs.Flat.{flat}
 use Rattle.sheet.specs.Allowed.{All, Allowed}
-use Rattle.sheet.specs.Record.{Item, entry, bad, records}
+use Rattle.sheet.specs.Record.{RecordItem, entry, bad, records}
 use Rattle.sheet.specs.Read.{voiceOf}
 use Rattle.sheet.specs.Judge.{judgedItems}
 use Rattle.sheet.specs.declared.judge.Judged.the-variants.{Sound}
@@ -20,10 +20,10 @@ use Rattle.sheet_grammar.proofs.Regroup.{groupsIn}
 use Rattle.sheet_grammar.proofs.VoiceLaws.{groupsOf, flat-bytes, groups-written, texts-well-formed, voice-back}
 
 -- a voice's records, kind by kind
-abbrev pub itemsOf : Voice → List Item
+abbrev pub itemsOf : Voice → List RecordItem
 itemsOf v = sections openers (groupsOf v)
 
-correct-whole : (i : Item) → OfItem Correct i → OfItem Whole i
+correct-whole : (i : RecordItem) → OfItem Correct i → OfItem Whole i
 correct-whole (entry k b) h = h .whole
 correct-whole (bad n) h = h
 

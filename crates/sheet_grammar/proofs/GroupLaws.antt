@@ -11,7 +11,7 @@ use native.Mathlib.Omega.{arith}
 use borrow.Author.Tests.{eqb-true, eqb-false, eq-eqb, ne-eqb}
 use lib.Dec.{T, eqb, ltb, ltb→lt}
 use Rattle.sheet.specs.Allowed.{All}
-use Rattle.sheet.specs.Record.{unknownKind, Item, entry}
+use Rattle.sheet.specs.Record.{unknownKind, RecordItem, entry}
 use Rattle.sheet.specs.Order.{belongs}
 use Rattle.sheet.specs.Read.{leading, Group, groups}
 use Rattle.sheet_grammar.proofs.KindLaws.{Opener, all-open, opens-or-belongs, known-kind, opens-group, isIn, member, openers, member-belongs}
@@ -19,7 +19,7 @@ use Rattle.sheet_grammar.proofs.Sections.{section, sections}
 
 -- ---- one record more
 
-module _ (k : ℕ) (b : List ℕ) (items : List Item) where
+module _ (k : ℕ) (b : List ℕ) (items : List RecordItem) where
   pub leading-own : (j : ℕ) → eqb k j ≡ true → leading j (entry k b ∷ items) ≡ b ∷ leading j items
   unfolding leading
   leading-own j e = rw e
@@ -44,7 +44,7 @@ apart j k o p e =
 
 -- ---- past a group's members
 
-module _ (rest : List Item) where
+module _ (rest : List RecordItem) where
   pub leading-members : (m : ℕ) (ms : List (List ℕ)) → leading m (map (entry m) ms ++ rest) ≡ ms ++ leading m rest
   leading-members m [] = refl
   leading-members m (b ∷ ms) = leading-own m b _ m (eq-eqb m m refl) ∙ ap (λ (l : List (List ℕ)). b ∷ l) (leading-members m ms)
@@ -55,7 +55,7 @@ module _ (rest : List Item) where
 
 -- ---- past the groups of one kind
 
-module _ (rest : List Item) where
+module _ (rest : List RecordItem) where
   pub leading-section : (m k : ℕ) (gs : List Group) → eqb k m ≡ false → leading m rest ≡ [] → leading m (section k gs ++ rest) ≡ []
   leading-section m k [] e h = h
   leading-section m k (g ∷ gs) e h = leading-other k (g .body) _ m e

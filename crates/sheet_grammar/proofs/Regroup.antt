@@ -14,7 +14,7 @@ use lib.Dec.{eqb, ltb}
 use lib.ListN.{length}
 use Rattle.laws.proofs.Cases.{neither}
 use Rattle.sheet.specs.Allowed.{All}
-use Rattle.sheet.specs.Record.{unknownKind, Item, entry, bad}
+use Rattle.sheet.specs.Record.{unknownKind, RecordItem, entry, bad}
 use Rattle.sheet.specs.Order.{belongs, misplaced, groupAfter}
 use Rattle.sheet.specs.Read.{leading, Group, groups}
 use Rattle.sheet_grammar.proofs.ListLaws.{all-imply}
@@ -25,7 +25,7 @@ use Rattle.sheet_grammar.proofs.Sections.{groupItems, section, sections
 use Rattle.sheet_grammar.proofs.GroupLaws.{leading-own, leading-other, groups-own, groups-other, Ascending, ascending, not-in}
 
 -- the groups of each kind
-abbrev pub groupsIn : List Item → ℕ → List Group
+abbrev pub groupsIn : List RecordItem → ℕ → List Group
 groupsIn items j = groups j (member j) items
 
 -- ---- nothing earlier comes later
@@ -37,7 +37,7 @@ later-still n g k h l = go (belongs k)
     go true = h
     go false = omega arith
 
-none-earlier : (j m : ℕ) {g : ℕ} {items : List Item} → Ordered g items → All (OfItem Correct) items → latestOf j < g → groups j m items ≡ []
+none-earlier : (j m : ℕ) {g : ℕ} {items : List RecordItem} → Ordered g items → All (OfItem Correct) items → latestOf j < g → groups j m items ≡ []
 unfolding groups
 none-earlier j m (end p) r h = refl
 none-earlier j m {g} (more {k = k} {b = b} {items = items} p o) r h =
@@ -56,7 +56,7 @@ above k j ks a h = go (ltb j k) refl
     go true e = ltb-true j k e
     go false e = absurd (true≢false (sym h ∙ not-in k j ks (ltb-false j k e) a))
 
-module _ (k : ℕ) (b : List ℕ) (items : List Item) where
+module _ (k : ℕ) (b : List ℕ) (items : List RecordItem) where
   same-groups : (j : ℕ) → (j ≡ k → ⊥) → groupsIn (entry k b ∷ items) j ≡ groupsIn items j
   same-groups j h = groups-other k b items j (member j) (ne-eqb k j (λ e. h (sym e)))
 
@@ -68,7 +68,7 @@ module _ (k : ℕ) (b : List ℕ) (items : List Item) where
       rw (same-groups j (λ e. eqb-false k j (parts .0) (sym e)), same-sections ks (parts .1))
 
   -- one that opens the first of them
-  abbrev opened : List Item
+  abbrev opened : List RecordItem
   opened = groupItems k (record { body = b; members = leading (member k) items })
 
   first-group : ((j : ℕ) → Opener j → j < k → groupsIn items j ≡ []) → (i : ℕ) (ks : List ℕ) → Ascending i ks → All Opener ks → isIn k ks ≡ true
@@ -90,39 +90,39 @@ module _ (k : ℕ) (b : List ℕ) (items : List Item) where
 -- ---- all records
 
 -- the records of the group in hand, and those of the groups after it
-abbrev regrouped : ℕ → List Item → List Item
+abbrev regrouped : ℕ → List RecordItem → List RecordItem
 regrouped g items = map (entry (member g)) (leading (member g) items) ++ sections openers (groupsIn items)
 
-module _ (g k : ℕ) (b : List ℕ) (items : List Item) (known : unknownKind k ≡ false) (p : misplaced g k ≡ false) where
+module _ (g k : ℕ) (b : List ℕ) (items : List RecordItem) (known : unknownKind k ≡ false) (p : misplaced g k ≡ false) where
   regroup-next : (t : Bool) → belongs k ≡ t → Ordered (cond t g k) items → All (OfItem Correct) items → regrouped (cond t g k) items ≡ items → regrouped g (entry k b ∷ items) ≡ entry k b ∷ items
   regroup-next true e o r h =
       let own : eqb k (member g) ≡ true = belongs-member g k known p ∙ e in
       rw (leading-own k b items (member g) own, same-sections k b items openers (opens-or-belongs k known ∙ ap not e))
-      (ap (λ (l : List Item). entry (member g) b ∷ l) h ∙ ap (λ (j : ℕ). entry j b ∷ items) (sym (eqb-true k (member g) own)))
+      (ap (λ (l : List RecordItem). entry (member g) b ∷ l) h ∙ ap (λ (j : ℕ). entry j b ∷ items) (sym (eqb-true k (member g) own)))
   regroup-next false e o r h =
       let none : (j : ℕ) → Opener j → j < k → groupsIn items j ≡ [] = λ j q l. none-earlier j (member j) o r (omega (arith, latest-le j (known-kind j q))) in
       rw (leading-other k b items (member g) (belongs-member g k known p ∙ e), first-group k b items none 0 openers ascending all-open (opens-or-belongs k known ∙ ap not e))
-      (ap (λ (l : List Item). entry k b ∷ l) h)
+      (ap (λ (l : List RecordItem). entry k b ∷ l) h)
 
-regroup : {g : ℕ} {items : List Item} → Ordered g items → All (OfItem Correct) items → regrouped g items ≡ items
+regroup : {g : ℕ} {items : List RecordItem} → Ordered g items → All (OfItem Correct) items → regrouped g items ≡ items
 unfolding leading groups
 regroup (end p) r = refl
 regroup {g} (more {k = k} {b = b} {items = items} p o) r = regroup-next g k b items (r .0 .whole .known) p (belongs k) refl o (r .1) (regroup o (r .1))
 
 -- before the first record no group is in hand
-none-in-hand : (items : List Item) → All (OfItem Correct) items → leading 0 items ≡ []
+none-in-hand : (items : List RecordItem) → All (OfItem Correct) items → leading 0 items ≡ []
 unfolding leading
 none-in-hand [] r = refl
 none-in-hand (bad n ∷ items) r = refl
 none-in-hand (entry k b ∷ items) r = leading-other k b items 0 (neither (eqb k 0) (ltb 11 k) (r .0 .whole .known) .0)
 
-pub regroup-all : (items : List Item) → Ordered 0 items → All (OfItem Correct) items → sections openers (groupsIn items) ≡ items
+pub regroup-all : (items : List RecordItem) → Ordered 0 items → All (OfItem Correct) items → sections openers (groupsIn items) ≡ items
 regroup-all items o r = ap (λ (l : List (List ℕ)). map (entry 0) l ++ sections openers (groupsIn items)) (sym (none-in-hand items r)) ∙ regroup o r
 
 -- ---- the groups that were read
 
 module _ (P : ℕ → List ℕ → Type 0) where
-  leading-all : (m : ℕ) (items : List Item) → All (OfItem P) items → All (P m) (leading m items)
+  leading-all : (m : ℕ) (items : List RecordItem) → All (OfItem P) items → All (P m) (leading m items)
   unfolding leading
   leading-all m [] h = tt
   leading-all m (bad n ∷ items) h = tt
@@ -132,7 +132,7 @@ module _ (P : ℕ → List ℕ → Type 0) where
       go true e l = (subst (λ (j : ℕ). P j b) (eqb-true k m e) (h .0), l)
       go false e l = tt
 
-  groups-all : (j : ℕ) (items : List Item) → All (OfItem P) items → All (OfGroup P j) (groupsIn items j)
+  groups-all : (j : ℕ) (items : List RecordItem) → All (OfItem P) items → All (OfGroup P j) (groupsIn items j)
   unfolding groups
   groups-all j [] h = tt
   groups-all j (bad n ∷ items) h = tt
@@ -144,7 +144,7 @@ module _ (P : ℕ → List ℕ → Type 0) where
       go false e l = l
 
 -- of a kind that may not come after itself there is one at most
-groups-once : (j : ℕ) → Opener j → latestOf j < j → {g : ℕ} {items : List Item} → Ordered g items → All (OfItem Correct) items → length (groupsIn items j) ≤ 1
+groups-once : (j : ℕ) → Opener j → latestOf j < j → {g : ℕ} {items : List RecordItem} → Ordered g items → All (OfItem Correct) items → length (groupsIn items j) ≤ 1
 unfolding groups
 groups-once j q l (end p) r = omega arith
 groups-once j q l {g} (more {k = k} {b = b} {items = items} p o) r = go (eqb k j) refl (groups-once j q l o (r .1))
@@ -158,12 +158,12 @@ groups-once j q l {g} (more {k = k} {b = b} {items = items} p o) r = go (eqb k j
         rw none (omega arith)
     go false e h = h
 
-pub groups-listed : (P : ℕ → List ℕ → Type 0) {g : ℕ} {items : List Item} → Ordered g items → All (OfItem Correct) items → All (OfItem P) items → All (λ j. Listed P j (groupsIn items j)) openers
+pub groups-listed : (P : ℕ → List ℕ → Type 0) {g : ℕ} {items : List RecordItem} → Ordered g items → All (OfItem Correct) items → All (OfItem P) items → All (λ j. Listed P j (groupsIn items j)) openers
 groups-listed P {items = items} o r h =
     let one : (j : ℕ) → Opener j → Listed P j (groupsIn items j) = λ j q. record { once = λ l. groups-once j q l o r; each-is = groups-all P j items h } in
     all-imply one openers all-open
 
-pub header-there : {items : List Item} → Ordered 0 items → All (OfItem Correct) items → 0 < length (groupsIn items 1)
+pub header-there : {items : List RecordItem} → Ordered 0 items → All (OfItem Correct) items → 0 < length (groupsIn items 1)
 header-there (end p) r = absurd (omega arith)
 header-there (more {k = k} {b = b} {items = items} p o) r =
     let is-header : k ≡ 1 = header-first k (r .0 .whole .known) p in

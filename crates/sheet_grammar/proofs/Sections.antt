@@ -14,7 +14,7 @@ use lib.Dec.{T, ltb, leb, leb→le}
 use lib.ListN.{length}
 use Rattle.laws.specs.Walk.{each}
 use Rattle.sheet.specs.Allowed.{All}
-use Rattle.sheet.specs.Record.{Item, entry}
+use Rattle.sheet.specs.Record.{RecordItem, entry}
 use Rattle.sheet.specs.Order.{misplaced}
 use Rattle.sheet.specs.Read.{Group}
 use Rattle.sheet_grammar.proofs.ListLaws.{all-append, all-map, each-append, each-map}
@@ -23,16 +23,16 @@ use Rattle.sheet_grammar.proofs.OrderLaws.{Correct, Ordered, end, onwar
 use Rattle.sheet_grammar.proofs.KindLaws.{Opener, all-open, known-kind, opens-group, known-from, member, followers, openers, latestOf, latest-le, earliest-le, placed, member-belongs, member-placed}
 
 -- the records of a group of kind k
-abbrev pub groupItems : ℕ → Group → List Item
+abbrev pub groupItems : ℕ → Group → List RecordItem
 groupItems k g = entry k (g .body) ∷ map (entry (member k)) (g .members)
 
 -- of groups of one kind
-abbrev pub section : ℕ → List Group → List Item
+abbrev pub section : ℕ → List Group → List RecordItem
 section k [] = []
 section k (g ∷ gs) = groupItems k g ++ section k gs
 
 -- of groups of several kinds, kind by kind
-abbrev pub sections : List ℕ → (ℕ → List Group) → List Item
+abbrev pub sections : List ℕ → (ℕ → List Group) → List RecordItem
 sections [] gs = []
 sections (k ∷ ks) gs = section k (gs k) ++ sections ks gs
 
@@ -77,7 +77,7 @@ sections-bytes (k ∷ ks) gs = each-append bytesOf (section k (gs k)) (sections 
 
 -- ---- their order
 
-module _ (k : ℕ) (o : Opener k) (rest : List Item) where
+module _ (k : ℕ) (o : Opener k) (rest : List RecordItem) where
   -- members leave their group in hand
   members-ordered : (ms : List (List ℕ)) → All (Correct (member k)) ms → Ordered k rest → Ordered k (map (entry (member k)) ms ++ rest)
   members-ordered [] r h = h
@@ -89,7 +89,7 @@ module _ (k : ℕ) (o : Opener k) (rest : List Item) where
   group-ordered j g r p h = onward j k (g .body) false p (opens-group k o) (members-ordered (g .members) (r .members) h)
 
 -- in order whatever group is in hand, up to u
-abbrev Passes : ℕ → List Item → Type 0
+abbrev Passes : ℕ → List RecordItem → Type 0
 Passes u items = (j : ℕ) → 1 ≤ j → j ≤ u → Ordered j items
 
 -- a kind that comes twice may come after itself
@@ -100,7 +100,7 @@ twice k n h = go (ltb (latestOf k) k) refl
     go true e = absurd (omega (arith, h (ltb-true (latestOf k) k e)))
     go false e = ltb-false (latestOf k) k e
 
-module _ (k : ℕ) (o : Opener k) (rest : List Item) (h : Passes k rest) where
+module _ (k : ℕ) (o : Opener k) (rest : List RecordItem) (h : Passes k rest) where
   then-more : (g : Group) (gs : List Group) → (latestOf k < k → length (g ∷ gs) ≤ 1) → Passes (latestOf k) (section k gs ++ rest) → Ordered k (section k gs ++ rest)
   then-more g [] once p = h k (known-from k (known-kind k o)) (omega arith)
   then-more g (x ∷ gs) once p = p k (known-from k (known-kind k o)) (twice k (length gs) once)

@@ -13,7 +13,7 @@ use Rattle.laws.specs.Walk.{each}
 use Rattle.refusal.specs.Numbers.{textIllFormed}
 use Rattle.sheet.specs.Flat.{flat}
 use Rattle.sheet.specs.Allowed.{All, Allowed}
-use Rattle.sheet.specs.Record.{Item, entry, bad, records}
+use Rattle.sheet.specs.Record.{RecordItem, entry, bad, records}
 use Rattle.sheet.specs.Order.{firstWrong}
 use Rattle.sheet.specs.Read.{Group, voiceOf, readSheet}
 use Rattle.sheet.specs.Judge.{textsWellFormed, judgedItems, judged}
@@ -27,7 +27,7 @@ use Rattle.sheet_grammar.proofs.Regroup.{groupsIn, regroup-all, groups-
 use Rattle.sheet_grammar.proofs.VoiceLaws.{groupsOf, flat-bytes, voiceIn, groups-again, voice-allowed}
 
 -- what the judge looked at
-sound-items : (items : List Item) → judgedItems items ≡ Sound → (firstWrong 0 items ≡ 0) × (textsWellFormed (groupsIn items 10) ≡ true)
+sound-items : (items : List RecordItem) → judgedItems items ≡ Sound → (firstWrong 0 items ≡ 0) × (textsWellFormed (groupsIn items 10) ≡ true)
 unfolding judgedItems
 sound-items items = go (eqb (firstWrong 0 items) 0) (textsWellFormed (groupsIn items 10)) refl refl
   where
@@ -37,7 +37,7 @@ sound-items items = go (eqb (firstWrong 0 items) 0) (textsWellFormed (groupsIn i
     go true false p q e = let z : _≡_ {A = ℕ} 0 1 = cc in absurd (omega arith)
     go false t p q e = let z : _≡_ {A = ℕ} 0 1 = cc in absurd (omega arith)
 
-item-correct : (i : Item) → OfItem Given i → OfItem Correct i
+item-correct : (i : RecordItem) → OfItem Given i → OfItem Correct i
 item-correct (entry k b) h = h .correct
 item-correct (bad n) h = h
 

@@ -17,7 +17,7 @@ use Rattle.sheet.specs.Voice.{Text}
 use Rattle.sheet.specs.Allowed.{All, IfThere, PanFits, PointFits, SegmentFits, FadeFits}
 use Rattle.sheet.specs.Record.{unknownKind, bodyLength}
 use Rattle.sheet.specs.Order.{valueWrong}
-use Rattle.sheet.specs.Read.{Group, first, mapOption, channelIn, bodyOf, textIn}
+use Rattle.sheet.specs.Read.{Group, first, mapOption, recordChannel, bodyOf, textIn}
 use Rattle.sheet_grammar.proofs.ListLaws.{all-imply}
 use Rattle.sheet_grammar.proofs.OrderLaws.{Correct, Given}
 use Rattle.sheet_grammar.proofs.KindLaws.{member, latestOf}
@@ -53,12 +53,12 @@ pub fade-form : Form (IfThere FadeFits) (Listed Correct 9) (Listed Given 9) (λ 
 fade-form = alone-once 9 refl (omega arith) fade-body
 
 -- a value that was read is known
-channel-known : (gs : List Group) → Listed Correct 2 gs → channelIn (first (bodiesOf gs)) ≡ mapOption (λ b. assignment (channelOf (getD b 0 0))) (first (bodiesOf gs))
+channel-known : (gs : List Group) → Listed Correct 2 gs → recordChannel (first (bodiesOf gs)) ≡ mapOption (λ b. assignment (channelOf (getD b 0 0))) (first (bodiesOf gs))
 channel-known [] h = refl
 channel-known (g ∷ gs) h = known-channel (getD (g .body) 0 0) (h .each-is .0 .body .value)
 
-pub channel-form : Form (IfThere (λ c. Unit {0})) (Listed Correct 2) (Listed Given 2) (λ o. map (λ c. alone (channelValueOf c ∷ [])) (listed o)) (λ gs. channelIn (first (bodiesOf gs)))
-channel-form = reread (alone-once 2 refl (omega arith) channel-body) (given-correct 2) (λ gs. channelIn (first (bodiesOf gs))) channel-known
+pub channel-form : Form (IfThere (λ c. Unit {0})) (Listed Correct 2) (Listed Given 2) (λ o. map (λ c. alone (channelValueOf c ∷ [])) (listed o)) (λ gs. recordChannel (first (bodiesOf gs)))
+channel-form = reread (alone-once 2 refl (omega arith) channel-body) (given-correct 2) (λ gs. recordChannel (first (bodiesOf gs))) channel-known
 
 -- ---- exactly one
 

@@ -20,7 +20,7 @@ use Rattle.sheet.specs.Flat.{ifThere, flatEnvelope, flatSequence, flatText, fla
 use Rattle.sheet.specs.Allowed.{All, IfThere, TextAllowed, Allowed}
 use Rattle.sheet.specs.Judge.{textsWellFormed}
 use Rattle.text_utf8.specs.Utf8.{wellFormed}
-use Rattle.sheet.specs.Read.{Group, first, mapOption, channelIn, bodyOf, textIn}
+use Rattle.sheet.specs.Read.{Group, first, mapOption, recordChannel, bodyOf, textIn}
 use Rattle.sheet_grammar.proofs.ListLaws.{each-map, all-imply}
 use Rattle.sheet_grammar.proofs.RecordLaws.{bytesOf}
 use Rattle.sheet_grammar.proofs.OrderLaws.{Correct, Given}
@@ -103,7 +103,7 @@ texts-allowed (g ∷ gs) f w =
 abbrev pub voiceIn : (ℕ → List Group) → Voice
 voiceIn gs = record {
   header = headerOf (bodyOf (first (bodiesOf (gs 1))));
-  channel = channelIn (first (bodiesOf (gs 2)));
+  channel = recordChannel (first (bodiesOf (gs 2)));
   pan = mapOption panOf (first (bodiesOf (gs 3)));
   attacks = map (λ g. map pointOf (g .members)) (gs 4);
   releases = map (λ g. map pointOf (g .members)) (gs 5);

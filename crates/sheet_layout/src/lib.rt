@@ -3,11 +3,14 @@
 mod members;
 
 use header::VoiceHeader;
+use header::read_header;
 pub use members::next_member;
 use small_chunks::ChannelAssignment;
 use small_chunks::Fade;
 use small_chunks::Pan;
 use small_chunks::ParsedChannel;
+use small_chunks::read_fade;
+use small_chunks::read_pan;
 ghost use mathlib.Core.Path.{_≡_};
 ghost use Prim.Native.Nat.{_+_, _≤_};
 ghost use lib.ListN.{drop};
@@ -113,7 +116,7 @@ pub fn sheet_header(sheet: &[u8]) -> VoiceHeader
     requires { ⌜ judged (now sheet) ≡ Sound ⌝ }
     ensures { λ r. ⌜ r ≡ readSheet (now (sheet .entry)) .header ⌝ }
 {
-    VoiceHeader::read(sheet, 1)
+    read_header(sheet, 1)
 }
 
 // That it has two channels. A channel's record, where there is one, follows the header's.
@@ -155,7 +158,7 @@ pub fn sheet_pan(sheet: &[u8], l: Layout) -> MaybePan
         return MaybePan::NoPan;
     }
     let body = at + 1;
-    MaybePan::Panned(Pan::read(sheet, body))
+    MaybePan::Panned(read_pan(sheet, body))
 }
 
 // Its fade, where it has one.
@@ -168,7 +171,7 @@ pub fn sheet_fade(sheet: &[u8], l: Layout) -> MaybeFade
         return MaybeFade::NoFade;
     }
     let body = at + 1;
-    MaybeFade::Fades(Fade::read(sheet, body))
+    MaybeFade::Fades(read_fade(sheet, body))
 }
 
 // Its sequence, where it has one: how many segments. Each takes nine bytes after the byte that begins the sequence.

@@ -23,8 +23,8 @@ use Rattle.form.specs.Names.{chan, seqn}
 use Rattle.text.specs.Text.{clean}
 use Rattle.sheet.specs.Flat.{ifThere, flatEnvelope, flatSequence, flatText}
 use Rattle.sheet.specs.Read.{mapOption, knownChannel}
-use Rattle.sheet_read.specs.FormVoice.{channelIn, textKey, textOf}
-use Rattle.sheet_read.specs.Parts.{recordPart, channelPart, envelopePart, sequencePart, textPart}
+use Rattle.sheet_read.specs.FormVoice.{chunkChannel, textKey, textOf}
+use Rattle.sheet_read.specs.Parts.{recordPart, channelPart, envelopePart, segmentsPart, textPart}
 use Rattle.sheet_read.proofs.CutLaws.{parts-bound}
 use Rattle.sheet_read.proofs.TextLaws.{text-length, texts-none, texts-bad, texts-more}
 
@@ -96,7 +96,7 @@ channel-bound f =
     rw (same (firstOf chan (itemsFrom f 12)))
     (first-bound chan (λ b. ifThere flatChannel (knownChannel (channelOf (bigEndian 4 b)))) 1 (λ b. omega (arith, two (knownChannel (channelOf (bigEndian 4 b))))) f)
   where
-    same : (o : Option (List ℕ)) → ifThere flatChannel (channelIn o) ≡ ifThere (λ b. ifThere flatChannel (knownChannel (channelOf (bigEndian 4 b)))) o
+    same : (o : Option (List ℕ)) → ifThere flatChannel (chunkChannel o) ≡ ifThere (λ b. ifThere flatChannel (knownChannel (channelOf (bigEndian 4 b)))) o
     same none = refl
     same (some b) = refl
 
@@ -107,7 +107,7 @@ channel-bound f =
 pub envelope-bound : (id kind : ℕ) (f : List ℕ) → length (envelopePart id kind (itemsFrom f 12)) ≤ 2 * length f
 envelope-bound id kind = all-bound id (flatEnvelope kind) envelopePoints 2 (λ b. omega (arith, parts-bound 6 6 (lit< tt) pointOf pointBytes point-length b))
 
-pub sequence-bound : (f : List ℕ) → length (sequencePart (itemsFrom f 12)) ≤ 2 * length f
+pub sequence-bound : (f : List ℕ) → length (segmentsPart (itemsFrom f 12)) ≤ 2 * length f
 sequence-bound f =
     rw (there-map flatSequence sequenceSegments (firstOf seqn (itemsFrom f 12)))
     (first-bound seqn (λ b. flatSequence (sequenceSegments b)) 2 (λ b. omega (arith, parts-bound 8 8 (lit< tt) segmentOf segmentBytes segment-length b)) f)

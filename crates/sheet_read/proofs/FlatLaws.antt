@@ -25,8 +25,8 @@ use Rattle.form.specs.Names.{vhdr, pan, atak, rlse, fade}
 use Rattle.form.proofs.FormLaws.{size-least, first-sound}
 use Rattle.sheet.specs.Flat.{ifThere, flat}
 use Rattle.sheet.specs.Read.{mapOption, bodyOf}
-use Rattle.sheet_read.specs.FormVoice.{formVoice, isThere, Readable}
-use Rattle.sheet_read.specs.Parts.{recordPart, channelPart, envelopePart, sequencePart, textPart}
+use Rattle.sheet_read.specs.FormVoice.{formVoice, isSome, Readable}
+use Rattle.sheet_read.specs.Parts.{recordPart, channelPart, envelopePart, segmentsPart, textPart}
 use Rattle.sheet_read.proofs.ItemLaws.{Payloads, payloads, first-payload}
 use Rattle.sheet_read.proofs.PlaceLaws.{least-of}
 
@@ -50,14 +50,14 @@ module _ (f : List ℕ) (bytes : Bytes f) (sound : firstBad (itemsFrom f 12) ≡
           ap (λ (l : List ℕ). kind ∷ l) (again b (first-payload Bytes id (itemsFrom f 12) (payload-bytes f bytes 12) b e) fits)
 
 -- the header, where there is one
-header-there : (o : Option (List ℕ)) → isThere o ≡ true → 1 ∷ headerBytes (headerOf (bodyOf o)) ≡ ifThere (λ h. 1 ∷ headerBytes h) (mapOption headerOf o)
+header-there : (o : Option (List ℕ)) → isSome o ≡ true → 1 ∷ headerBytes (headerOf (bodyOf o)) ≡ ifThere (λ h. 1 ∷ headerBytes h) (mapOption headerOf o)
 header-there none e = absurd (true≢false (sym e))
 header-there (some b) e = refl
 
 -- the parts of a sheet, with the three records that are written from values
 abbrev joined : List Item → List ℕ → List ℕ → List ℕ → List ℕ
 joined items header pan fade =
-    header ++ channelPart items ++ pan ++ envelopePart atak 4 items ++ envelopePart rlse 5 items ++ sequencePart items ++ fade ++ textPart items
+    header ++ channelPart items ++ pan ++ envelopePart atak 4 items ++ envelopePart rlse 5 items ++ segmentsPart items ++ fade ++ textPart items
 
 joined-same : (items : List Item) {h h′ p p′ q q′ : List ℕ} → h ≡ h′ → p ≡ p′ → q ≡ q′ → joined items h p q ≡ joined items h′ p′ q′
 joined-same items eh ep eq = rw (eh, ep, eq)
@@ -78,7 +78,7 @@ pub parts-put : (f : List ℕ) → Bytes f → Readable f → {d d₁ d₂ d₃ 
     → Put d₂ r₂ (recordPart pan 3 4 (itemsFrom f 12)) d₃ r₃
     → Put d₃ r₃ (envelopePart atak 4 (itemsFrom f 12)) d₄ r₄
     → Put d₄ r₄ (envelopePart rlse 5 (itemsFrom f 12)) d₅ r₅
-    → Put d₅ r₅ (sequencePart (itemsFrom f 12)) d₆ r₆
+    → Put d₅ r₅ (segmentsPart (itemsFrom f 12)) d₆ r₆
     → Put d₆ r₆ (recordPart fade 9 4 (itemsFrom f 12)) d₇ r₇
     → Put d₇ r₇ (textPart (itemsFrom f 12)) d₈ r₈
     → Put d 0 (flat (formVoice (itemsFrom f 12))) d₈ r₈

@@ -14,15 +14,15 @@ use Rattle.field.proofs.BigEndianLaws.{bytes-take, bytes-drop}
 use Rattle.small_chunks.specs.Channel.{channelOf, channelValueOf, parsedChannel}
 use Rattle.small_chunks.specs.declared.channel.ParsedChannel.{ParsedChannel}
 use Rattle.chunk.specs.Chunk.{itemsFrom}
-use Rattle.form.specs.Find.{Found}
 use Rattle.form.specs.FirstBad.{firstBad}
 use Rattle.form.specs.Kind.{names, kindOf, least}
 use Rattle.form.specs.Names.{chan, seqn}
 use Rattle.form.specs.declared.place.Place.the-variants.{At}
+use Rattle.form.proofs.FindLaws.{Found}
 use Rattle.form.proofs.FormLaws.{kind-name, size-least, first-sound}
 use Rattle.sheet.specs.Flat.{ifThere}
 use Rattle.sheet.specs.Read.{knownChannel}
-use Rattle.sheet_read.specs.Parts.{recordPart, channelPart, sequencePart}
+use Rattle.sheet_read.specs.Parts.{recordPart, channelPart, segmentsPart}
 use Rattle.sheet_read.proofs.TurnLaws.{segments-tagged}
 
 -- the least length of a name that has rules
@@ -49,5 +49,5 @@ module _ {f : List ℕ} {start size : ℕ} where
       let read : p ≡ channelOf (bigEndian 4 l) = h ∙ rw (le-ltb (length l) 4 four) in
       rw (← w .is, read)
 
-  pub sequence-at : Found f seqn (At start size) → Bytes f → sequencePart (itemsFrom f 12) ≡ 7 ∷ tagged 8 8 (take size (drop start f))
+  pub sequence-at : Found f seqn (At start size) → Bytes f → segmentsPart (itemsFrom f 12) ≡ 7 ∷ tagged 8 8 (take size (drop start f))
   sequence-at w b = rw (← w .is) (ap (λ (l : List ℕ). 7 ∷ l) (segments-tagged (take size (drop start f)) (bytes-take size (drop start f) (bytes-drop start f b))))

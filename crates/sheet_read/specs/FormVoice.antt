@@ -22,9 +22,9 @@ use Rattle.sheet.specs.Voice.{Text, Voice}
 use Rattle.sheet.specs.Read.{mapOption, knownChannel, bodyOf}
 
 -- the assignment of a CHAN
-abbrev pub channelIn : Option (List ℕ) → Option ChannelAssignment
-channelIn none = none
-channelIn (some b) = knownChannel (channelOf (bigEndian 4 b))
+abbrev pub chunkChannel : Option (List ℕ) → Option ChannelAssignment
+chunkChannel none = none
+chunkChannel (some b) = knownChannel (channelOf (bigEndian 4 b))
 
 -- the key of a text chunk's name: title, artist, comment, copyright, characters are 1 to 5; 0 for any other name
 unfoldable pub textKey : ℕ → ℕ
@@ -46,7 +46,7 @@ textsOf (chunk id b ∷ items) = textOf (textKey id) (clean b) ++ textsOf items
 unfoldable pub formVoice : List Item → Voice
 formVoice items = record {
   header = headerOf (bodyOf (firstOf vhdr items));
-  channel = channelIn (firstOf chan items);
+  channel = chunkChannel (firstOf chan items);
   pan = mapOption panOf (firstOf pan items);
   attacks = map envelopePoints (allOf atak items);
   releases = map envelopePoints (allOf rlse items);
@@ -56,12 +56,12 @@ formVoice items = record {
 }
 
 -- that there is one
-abbrev pub isThere : {A : Type 0} → Option A → Bool
-isThere none = false
-isThere (some a) = true
+abbrev pub isSome : {A : Type 0} → Option A → Bool
+isSome none = false
+isSome (some a) = true
 
 -- a FORM that has no bad chunk and has a VHDR
 pub record Readable (f : List ℕ) : Type 0 where
   pub sound : firstBad (itemsFrom f 12) ≡ 0
-  pub header : isThere (firstOf vhdr (itemsFrom f 12)) ≡ true
+  pub header : isSome (firstOf vhdr (itemsFrom f 12)) ≡ true
   pub short : length f < 2 ^ 33

@@ -11,7 +11,7 @@ use Rattle.form.specs.Names.{chan, seqn}
 use Rattle.form.specs.Find.{allOf, firstOf}
 use Rattle.sheet.specs.Flat.{ifThere, flatEnvelope, flatSequence, flatText}
 use Rattle.sheet.specs.Read.{mapOption}
-use Rattle.sheet_read.specs.FormVoice.{channelIn, textsOf}
+use Rattle.sheet_read.specs.FormVoice.{chunkChannel, textsOf}
 
 -- a record whose body is the first n bytes of a chunk
 abbrev pub recordPart : ℕ → ℕ → ℕ → List Item → List ℕ
@@ -19,15 +19,15 @@ recordPart id kind n items = ifThere (λ b. kind ∷ take n b) (firstOf id items
 
 -- the channel's record
 abbrev pub channelPart : List Item → List ℕ
-channelPart items = ifThere (λ c. 2 ∷ channelValueOf c ∷ []) (channelIn (firstOf chan items))
+channelPart items = ifThere (λ c. 2 ∷ channelValueOf c ∷ []) (chunkChannel (firstOf chan items))
 
 -- the envelopes of a name, each begun by a kind
 abbrev pub envelopePart : ℕ → ℕ → List Item → List ℕ
 envelopePart id kind items = each (flatEnvelope kind) (map envelopePoints (allOf id items))
 
 -- the sequence
-abbrev pub sequencePart : List Item → List ℕ
-sequencePart items = ifThere flatSequence (mapOption sequenceSegments (firstOf seqn items))
+abbrev pub segmentsPart : List Item → List ℕ
+segmentsPart items = ifThere flatSequence (mapOption sequenceSegments (firstOf seqn items))
 
 -- the texts
 abbrev pub textPart : List Item → List ℕ

@@ -18,7 +18,7 @@ ghost use Rattle.chunk.specs.Chunk.{itemsFrom};
 ghost use Rattle.form.specs.FirstBad.{firstBad};
 ghost use Rattle.form.specs.Kind.{kindOf, least};
 ghost use Rattle.sheet_read.specs.FormVoice.{Readable};
-ghost use Rattle.sheet_read.specs.Parts.{recordPart, channelPart, envelopePart, sequencePart};
+ghost use Rattle.sheet_read.specs.Parts.{recordPart, channelPart, envelopePart, segmentsPart};
 
 // A record of a kind whose body is the first n bytes of the chunk of a name, where there is one.
 pub(crate) fn put_part(form: &[u8], id: u32, kind: u8, n: usize, d: &mut [u8], at: usize) -> usize
@@ -81,8 +81,8 @@ pub(crate) fn put_envelopes(form: &[u8], id: u32, kind: u8, d: &mut [u8], at: us
 
 // The sequence, where there is one.
 pub(crate) fn put_sequence(form: &[u8], d: &mut [u8], at: usize) -> usize
-    requires { ⌜ at + length (sequencePart (itemsFrom (now form) 12)) < 2 ^ 63 ⌝ }
-    ensures { λ r. ⌜ Put (now (d .entry)) at (sequencePart (itemsFrom (now (form .entry)) 12)) (now (d .exit)) r ⌝ }
+    requires { ⌜ at + length (segmentsPart (itemsFrom (now form) 12)) < 2 ^ 63 ⌝ }
+    ensures { λ r. ⌜ Put (now (d .entry)) at (segmentsPart (itemsFrom (now (form .entry)) 12)) (now (d .exit)) r ⌝ }
 {
     match find(form, form::SEQN) {
         Place::Absent => at,

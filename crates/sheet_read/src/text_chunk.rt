@@ -1,6 +1,11 @@
 // The texts of the sheet.
 use chunk::ChunkStep;
 use chunk::chunk_at;
+use form::ANNO;
+use form::AUTH;
+use form::CHRS;
+use form::COPYRIGHT;
+use form::NAME;
 use text::clean_len;
 ghost use mathlib.Core.Path.{_≡_};
 ghost use Prim.Native.Nat.{_+_, _^_, _<_};
@@ -18,11 +23,11 @@ fn text_key(id: u32) -> u8
     ensures { λ r. ⌜ r ≡ textKey id ⌝ }
 {
     match id {
-        0x4E414D45 => 1,
-        0x41555448 => 2,
-        0x414E4E4F => 3,
-        0x28632920 => 4,
-        0x43485253 => 5,
+        NAME => 1,
+        AUTH => 2,
+        ANNO => 3,
+        COPYRIGHT => 4,
+        CHRS => 5,
         _ => 0,
     }
 }

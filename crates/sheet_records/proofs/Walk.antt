@@ -7,7 +7,7 @@ use mathlib.Core.List.{List, _∷_}
 use mathlib.Core.Path.{_≡_, refl, ap, sym, _∙_}
 use native.Mathlib.Omega.{arith}
 use Rattle.sheet.proofs.RecordLaws.{is-end, is-refused, is-record}
-use Rattle.sheet.specs.Record.{records, Item, entry, recordAt}
+use Rattle.sheet.specs.Record.{records, RecordItem, entry, recordAt}
 use Rattle.sheet.specs.declared.record.RecordStep.{RecordStep}
 use Rattle.sheet.specs.declared.record.RecordStep.the-variants.{Record, Refused, End}
 use Rattle.sheet_records.specs.Walked.{told, stepped}
@@ -22,7 +22,7 @@ walked-from (suc n) sheet at h = go (λ next. walked-from n sheet next) (recordA
         → (step : RecordStep) → recordAt sheet at ≡ step → told sheet step (stepped n sheet) ≡ records (drop at sheet)
     go later (Record kind start next) e =
         let whole = is-record sheet at kind start next e in
-        ap (λ (items : List Item). entry kind (take (next - start) (drop start sheet)) ∷ items) (later next (omega (arith, h, whole .on, whole .begun))) ∙ sym (whole .items)
+        ap (λ (items : List RecordItem). entry kind (take (next - start) (drop start sheet)) ∷ items) (later next (omega (arith, h, whole .on, whole .begun))) ∙ sym (whole .items)
     go later (Refused number) e = sym (is-refused sheet at number e)
     go later End e = sym (is-end sheet at e)
 

@@ -13,7 +13,7 @@ use Rattle.sheet_grammar.proofs.KindLaws.{member}
 use Rattle.sheet_grammar.proofs.ListLaws.{each-map}
 use Rattle.sheet_grammar.proofs.VoiceForms.{textGroup}
 use Rattle.laws.specs.Walk.{each}
-use Rattle.sheet.specs.Record.{Item, entry}
+use Rattle.sheet.specs.Record.{RecordItem, entry}
 use Rattle.sheet.specs.Voice.{Text}
 use Rattle.small_chunks.specs.Channel.{channelValueOf}
 use Rattle.small_chunks.specs.declared.channel.ChannelAssignment.{ChannelAssignment}
@@ -54,7 +54,7 @@ joined : {A : Type 0} (m : ℕ) (w : A → List ℕ) (l : List A) → membersAft
 joined m w l = ap (each (λ b. b)) (leading-all m (map w l)) ∙ each-map w (λ b. b) w (λ a. refl) l
 
 -- a kind whose chunk is its members
-pub gathered-group : {A : Type 0} (k id : ℕ) (w : A → List ℕ) → ((body : List ℕ) (items : List Item) → recordChunk k body items ≡ chunkBytes id (membersAfter (member k) items))
+pub gathered-group : {A : Type 0} (k id : ℕ) (w : A → List ℕ) → ((body : List ℕ) (items : List RecordItem) → recordChunk k body items ≡ chunkBytes id (membersAfter (member k) items))
     → (l : List A) → groupChunk k (gathered (map w l)) ≡ chunkBytes id (each w l)
 gathered-group k id w h l = h [] (map (entry (member k)) (map w l)) ∙ ap (chunkBytes id) (joined (member k) w l)
 

@@ -13,10 +13,10 @@ use Rattle.sheet_grammar.proofs.RecordLaws.{Cut, done, stop, next, records-cut}
 use Rattle.laws.specs.Walk.{each}
 use Rattle.sheet.proofs.RecordLaws.{Whole}
 use Rattle.sheet.specs.Read.{leading}
-use Rattle.sheet.specs.Record.{Item, entry, records, bodyLength}
+use Rattle.sheet.specs.Record.{RecordItem, entry, records, bodyLength}
 use Rattle.sheet_write.proofs.StopLaws.{Stopped, ended, refused}
 
-pub none-stopped : (m : ℕ) {items : List Item} → Stopped items → leading m items ≡ []
+pub none-stopped : (m : ℕ) {items : List RecordItem} → Stopped items → leading m items ≡ []
 unfolding leading
 none-stopped m ended = refl
 none-stopped m refused = refl
@@ -39,7 +39,7 @@ module _ (m : ℕ) where
   no-members : (l : List ℕ) → Sized m l []
   no-members l = record { total = omega arith; inside = omega arith }
 
-  cut-sized : {l : List ℕ} {items : List Item} → Cut l items → Sized m l (leading m items)
+  cut-sized : {l : List ℕ} {items : List RecordItem} → Cut l items → Sized m l (leading m items)
   cut-sized done = rw (none-stopped m ended) (no-members [])
   cut-sized (stop {l = l} {n = n} p) = rw (none-stopped m (refused {number = n})) (no-members l)
   cut-sized (next {k = k} {b = b} {l = l} {items = items} w c) = go (eqb k m) refl (cut-sized c)

@@ -13,14 +13,14 @@ use Rattle.sheet_grammar.proofs.KindLaws.{member, openers, all-parts}
 use Rattle.sheet.proofs.RecordLaws.{Whole}
 use Rattle.sheet.specs.Allowed.{All}
 use Rattle.sheet.specs.Read.{leading}
-use Rattle.sheet.specs.Record.{Item, entry, records}
+use Rattle.sheet.specs.Record.{RecordItem, entry, records}
 use Rattle.sheet_write.proofs.StopLaws.{Stopped, ended, refused}
 use Rattle.sheet_write.specs.RecordChunks.{membersAfter, recordChunk, recordChunks}
 use Rattle.sheet_write.specs.VoiceChunks.{textName}
 
 -- ---- one record's
 
-module _ (body : List ℕ) (items : List Item) where
+module _ (body : List ℕ) (items : List RecordItem) where
   pub header-chunk : recordChunk 1 body items ≡ chunkBytes vhdr body
   unfolding recordChunk
   header-chunk = refl
@@ -64,7 +64,7 @@ pub record Other (k : ℕ) : Type 0 where
   pub no-fade : k ≡ 9 → ⊥
   pub no-text : k ≡ 10 → ⊥
 
-pub no-chunk : (k : ℕ) (body : List ℕ) (items : List Item) → Other k → recordChunk k body items ≡ []
+pub no-chunk : (k : ℕ) (body : List ℕ) (items : List RecordItem) → Other k → recordChunk k body items ≡ []
 unfolding recordChunk
 no-chunk k body items o = rw (
   ne-eqb k 1 (o .no-header),
@@ -81,8 +81,8 @@ no-chunk k body items o = rw (
 
 -- of a kind that opens groups: its chunk looks at its members alone, and they are of another kind that opens no chunk
 pub record Opens (k : ℕ) : Type 0 where
-  pub by-members : (body : List ℕ) (items others : List Item) → leading (member k) items ≡ leading (member k) others → recordChunk k body items ≡ recordChunk k body others
-  pub silent : (body : List ℕ) (items : List Item) → recordChunk (member k) body items ≡ []
+  pub by-members : (body : List ℕ) (items others : List RecordItem) → leading (member k) items ≡ leading (member k) others → recordChunk k body items ≡ recordChunk k body others
+  pub silent : (body : List ℕ) (items : List RecordItem) → recordChunk (member k) body items ≡ []
   pub apart : eqb k (member k) ≡ false
 
 pub all-opens : All Opens openers
@@ -100,11 +100,11 @@ all-opens = all-parts Opens record {
 
 -- ---- all of them
 
-pub chunks-entry : (k : ℕ) (body : List ℕ) (items : List Item) → recordChunks (entry k body ∷ items) ≡ recordChunk k body items ++ recordChunks items
+pub chunks-entry : (k : ℕ) (body : List ℕ) (items : List RecordItem) → recordChunks (entry k body ∷ items) ≡ recordChunk k body items ++ recordChunks items
 unfolding recordChunks
 chunks-entry k body items = refl
 
-pub chunks-stopped : {items : List Item} → Stopped items → recordChunks items ≡ []
+pub chunks-stopped : {items : List RecordItem} → Stopped items → recordChunks items ≡ []
 unfolding recordChunks
 chunks-stopped ended = refl
 chunks-stopped refused = refl

@@ -10,7 +10,7 @@ use Rattle.sheet_grammar.proofs.Sections.{section, sections}
 use Rattle.laws.specs.Walk.{each}
 use Rattle.sheet.specs.Allowed.{All}
 use Rattle.sheet.specs.Read.{leading, Group}
-use Rattle.sheet.specs.Record.{Item, entry}
+use Rattle.sheet.specs.Record.{RecordItem, entry}
 use Rattle.sheet_write.proofs.MemberLaws.{none-stopped}
 use Rattle.sheet_write.proofs.RecordChunkLaws.{Opens, all-opens, chunks-entry, chunks-stopped}
 use Rattle.sheet_write.proofs.StopLaws.{ended}
@@ -24,7 +24,7 @@ groupChunk k g = recordChunk k (g .body) (map (entry (member k)) (g .members))
 pub leading-all : (m : ℕ) (ms : List (List ℕ)) → leading m (map (entry m) ms) ≡ ms
 leading-all m ms = ap (leading m) (sym (append-nil (map (entry m) ms))) ∙ leading-members [] m ms ∙ rw (none-stopped m ended) (append-nil ms)
 
-module _ (k : ℕ) (o : Opens k) (rest : List Item) where
+module _ (k : ℕ) (o : Opens k) (rest : List RecordItem) where
   members-chunks : (ms : List (List ℕ)) → recordChunks (map (entry (member k)) ms ++ rest) ≡ recordChunks rest
   members-chunks [] = refl
   members-chunks (m ∷ ms) = chunks-entry (member k) m (map (entry (member k)) ms ++ rest) ∙ rw (o .silent m (map (entry (member k)) ms ++ rest)) (members-chunks ms)
@@ -34,12 +34,12 @@ module _ (k : ℕ) (o : Opens k) (rest : List Item) where
       o .by-members (g .body) (map (entry (member k)) (g .members) ++ rest) (map (entry (member k)) (g .members))
       (leading-members rest (member k) (g .members) ∙ rw (h, append-nil (g .members)) (sym (leading-all (member k) (g .members))))
 
-section-chunks : (k : ℕ) → Opens k → (rest : List Item) → leading (member k) rest ≡ [] → (gs : List Group) → recordChunks (section k gs ++ rest) ≡ each (groupChunk k) gs ++ recordChunks rest
+section-chunks : (k : ℕ) → Opens k → (rest : List RecordItem) → leading (member k) rest ≡ [] → (gs : List Group) → recordChunks (section k gs ++ rest) ≡ each (groupChunk k) gs ++ recordChunks rest
 section-chunks k o rest h [] = refl
 section-chunks k o rest h (g ∷ gs) =
     let later = section k gs ++ rest in
     let members = map (entry (member k)) (g .members) in
-    ap (λ (l : List Item). recordChunks (entry k (g .body) ∷ l)) (append-assoc members (section k gs) rest)
+    ap (λ (l : List RecordItem). recordChunks (entry k (g .body) ∷ l)) (append-assoc members (section k gs) rest)
     ∙ chunks-entry k (g .body) (members ++ later)
     ∙ rw (group-chunk k o later g (leading-section rest (member k) k gs (o .apart) h), members-chunks k o later (g .members), section-chunks k o rest h gs)
     (sym (append-assoc (groupChunk k g) (each (groupChunk k) gs) (recordChunks rest)))

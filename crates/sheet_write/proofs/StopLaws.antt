@@ -9,12 +9,12 @@ use mathlib.Core.Path.{_≡_, sym}
 use native.Mathlib.Omega.{arith}
 use Rattle.sheet.proofs.RecordLaws.{is-refused, is-end}
 use Rattle.sheet.proofs.record.RecordStep.{enum}
-use Rattle.sheet.specs.Record.{Item, bad, records, recordAt}
+use Rattle.sheet.specs.Record.{RecordItem, bad, records, recordAt}
 use Rattle.sheet.specs.declared.record.RecordStep.{RecordStep}
 use Rattle.sheet.specs.declared.record.RecordStep.the-variants.{Record, Refused, End}
 
 -- no record stands at the front
-pub data Stopped : List Item → Type 0 where
+pub data Stopped : List RecordItem → Type 0 where
   ended : Stopped []
   refused : {number : ℕ} → Stopped (bad number ∷ [])
 

@@ -7,16 +7,16 @@ use mathlib.Core.List.{List, [], _∷_, _++_}
 use Rattle.laws.specs.Walk.{each}
 use Rattle.chunk.specs.ChunkBytes.{chunkBytes}
 use Rattle.form.specs.Names.{vhdr, chan, pan, atak, rlse, seqn, fade}
-use Rattle.sheet.specs.Record.{Item, entry, bad}
+use Rattle.sheet.specs.Record.{RecordItem, entry, bad}
 use Rattle.sheet.specs.Read.{leading}
 use Rattle.sheet_write.specs.VoiceChunks.{textName}
 
 -- the members' bodies, joined
-abbrev pub membersAfter : ℕ → List Item → List ℕ
+abbrev pub membersAfter : ℕ → List RecordItem → List ℕ
 membersAfter member items = each (λ b. b) (leading member items)
 
 -- the chunk that a record opens, given its body and the records after it
-unfoldable pub recordChunk : ℕ → List ℕ → List Item → List ℕ
+unfoldable pub recordChunk : ℕ → List ℕ → List RecordItem → List ℕ
 recordChunk kind body items =
     cond (eqb kind 1) (chunkBytes vhdr body)
     (cond (eqb kind 2) (chunkBytes chan (0 ∷ 0 ∷ 0 ∷ body))
@@ -29,7 +29,7 @@ recordChunk kind body items =
     [])))))))
 
 -- all of them
-unfoldable pub recordChunks : List Item → List ℕ
+unfoldable pub recordChunks : List RecordItem → List ℕ
 recordChunks [] = []
 recordChunks (bad number ∷ items) = []
 recordChunks (entry kind body ∷ items) = recordChunk kind body items ++ recordChunks items

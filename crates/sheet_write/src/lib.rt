@@ -23,11 +23,11 @@ ghost use Rattle.sheet_write.specs.VoiceChunks.{textName, voiceChunks};
 // The names of text chunks by their keys.
 const TEXT_NAMES: [u32; 6] = [
     0,
-    0x4E414D45,
-    0x41555448,
-    0x414E4E4F,
-    0x28632920,
-    0x43485253,
+    form::NAME,
+    form::AUTH,
+    form::ANNO,
+    form::COPYRIGHT,
+    form::CHRS,
 ];
 
 fn text_name(key: u8) -> u32

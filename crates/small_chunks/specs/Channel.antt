@@ -1,6 +1,6 @@
 -- CHAN: on which speaker a mono voice plays, or that there are two channels.
 use Prim.Native.Nat.{ℕ}
-use mathlib.Core.Bool.{cond}
+use mathlib.Core.Bool.{Bool, true, false, cond}
 use mathlib.Core.List.{List}
 use lib.Dec.{eqb, ltb}
 use lib.ListN.{length}
@@ -15,6 +15,15 @@ use Rattle.small_chunks.specs.declared.channel.ParsedChannel.the-variant
 abbrev pub channelOf : ℕ → ParsedChannel
 channelOf v =
     cond (eqb v 2) (Parsed Left) (cond (eqb v 4) (Parsed Right) (cond (eqb v 6) (Parsed Stereo) (Refused channelValue)))
+
+-- there is an assignment
+abbrev pub isParsed : ParsedChannel → Bool
+isParsed (Parsed c) = true
+isParsed (Refused number) = false
+
+-- the values of CHAN: those that stand for an assignment
+abbrev pub isChannel : ℕ → Bool
+isChannel v = isParsed (channelOf v)
 
 -- the value of an assignment
 abbrev pub channelValueOf : ChannelAssignment → ℕ

@@ -1,7 +1,7 @@
 // CHAN: on which speaker a mono voice plays, or that there are two channels.
 ghost use mathlib.Core.Path.{_≡_};
 ghost use Rattle.field.specs.BigEndian.{bigEndianBytes};
-ghost use Rattle.small_chunks.specs.Channel.{channelOf, channelValueOf, channelCount, parsedChannel};
+ghost use Rattle.small_chunks.specs.Channel.{channelOf, isChannel, channelValueOf, channelCount, parsedChannel};
 
 pub enum ChannelAssignment {
     // 2: mono, on the left.
@@ -15,6 +15,16 @@ pub enum ChannelAssignment {
 pub enum ParsedChannel {
     Parsed(ChannelAssignment),
     Refused(u8),
+}
+
+// That a value stands for an assignment.
+pub fn is_channel(v: u32) -> bool
+    ensures { λ r. ⌜ r ≡ isChannel v ⌝ }
+{
+    match ChannelAssignment::from_raw(v) {
+        ParsedChannel::Parsed(_) => true,
+        ParsedChannel::Refused(_) => false,
+    }
 }
 
 impl ChannelAssignment {

@@ -33,17 +33,17 @@ pub fn held_to_unity(z: i32) -> u32
     z as u32
 }
 
-impl Pan {
-    // The four bytes from `at` on.
-    pub fn read(s: &[u8], at: usize) -> Self
-        requires { ⌜ at + 4 ≤ length (now s) ⌝ }
-        ensures { λ r. ⌜ r ≡ panOf (drop at (now (s .entry))) ⌝ }
-    {
-        Pan {
-            position: field::read_i32(s, at),
-        }
+// The four bytes from `at` on.
+pub fn read_pan(s: &[u8], at: usize) -> Pan
+    requires { ⌜ at + 4 ≤ length (now s) ⌝ }
+    ensures { λ r. ⌜ r ≡ panOf (drop at (now (s .entry))) ⌝ }
+{
+    Pan {
+        position: field::read_i32(s, at),
     }
+}
 
+impl Pan {
     // The position of a PAN chunk.
     pub fn parse(body: &[u8]) -> ParsedPan
         ensures { λ r. ⌜ r ≡ parsedPan (now (body .entry)) ⌝ }
@@ -51,7 +51,7 @@ impl Pan {
         if body.len() < 4 {
             return ParsedPan::Refused(refusal::CHUNK_LENGTH);
         }
-        ParsedPan::Parsed(Pan::read(body, 0))
+        ParsedPan::Parsed(read_pan(body, 0))
     }
 
     // The four bytes of PAN.

@@ -10,19 +10,19 @@ pub struct EgPoint {
     pub dest: i32,
 }
 
-impl EgPoint {
-    // The six bytes from `at` on.
-    pub fn read(s: &[u8], at: usize) -> Self
-        requires { ⌜ at + 6 ≤ length (now s) ⌝ }
-        ensures { λ r. ⌜ r ≡ pointOf (drop at (now (s .entry))) ⌝ }
-    {
-        let level = at + 2;
-        EgPoint {
-            duration_ms: field::read16(s, at),
-            dest: field::read_i32(s, level),
-        }
+// The six bytes from `at` on.
+pub fn read_point(s: &[u8], at: usize) -> EgPoint
+    requires { ⌜ at + 6 ≤ length (now s) ⌝ }
+    ensures { λ r. ⌜ r ≡ pointOf (drop at (now (s .entry))) ⌝ }
+{
+    let level = at + 2;
+    EgPoint {
+        duration_ms: field::read16(s, at),
+        dest: field::read_i32(s, level),
     }
+}
 
+impl EgPoint {
     // Its six bytes.
     pub fn write(self) -> [u8; 6]
         ensures { λ r. ⌜ r ≡ pointBytes self ⌝ }

@@ -16,19 +16,19 @@ pub enum Validity {
     Refused(u8),
 }
 
-impl SeqnSegment {
-    // The eight bytes from `at` on.
-    pub fn read(s: &[u8], at: usize) -> Self
-        requires { ⌜ at + 8 ≤ length (now s) ⌝ }
-        ensures { λ r. ⌜ r ≡ segmentOf (drop at (now (s .entry))) ⌝ }
-    {
-        let second = at + 4;
-        SeqnSegment {
-            start: field::read32(s, at),
-            end: field::read32(s, second),
-        }
+// The eight bytes from `at` on.
+pub fn read_segment(s: &[u8], at: usize) -> SeqnSegment
+    requires { ⌜ at + 8 ≤ length (now s) ⌝ }
+    ensures { λ r. ⌜ r ≡ segmentOf (drop at (now (s .entry))) ⌝ }
+{
+    let second = at + 4;
+    SeqnSegment {
+        start: field::read32(s, at),
+        end: field::read32(s, second),
     }
+}
 
+impl SeqnSegment {
     // Its eight bytes.
     pub fn write(self) -> [u8; 8]
         ensures { λ r. ⌜ r ≡ segmentBytes self ⌝ }
@@ -85,17 +85,17 @@ pub enum ParsedFade {
     Refused(u8),
 }
 
-impl Fade {
-    // The four bytes from `at` on.
-    pub fn read(s: &[u8], at: usize) -> Self
-        requires { ⌜ at + 4 ≤ length (now s) ⌝ }
-        ensures { λ r. ⌜ r ≡ fadeOf (drop at (now (s .entry))) ⌝ }
-    {
-        Fade {
-            segment: field::read32(s, at),
-        }
+// The four bytes from `at` on.
+pub fn read_fade(s: &[u8], at: usize) -> Fade
+    requires { ⌜ at + 4 ≤ length (now s) ⌝ }
+    ensures { λ r. ⌜ r ≡ fadeOf (drop at (now (s .entry))) ⌝ }
+{
+    Fade {
+        segment: field::read32(s, at),
     }
+}
 
+impl Fade {
     // The segment of a FADE chunk.
     pub fn parse(body: &[u8]) -> ParsedFade
         ensures { λ r. ⌜ r ≡ parsedFade (now (body .entry)) ⌝ }
@@ -103,7 +103,7 @@ impl Fade {
         if body.len() < 4 {
             return ParsedFade::Refused(refusal::CHUNK_LENGTH);
         }
-        ParsedFade::Parsed(Fade::read(body, 0))
+        ParsedFade::Parsed(read_fade(body, 0))
     }
 
     // The four bytes of FADE.

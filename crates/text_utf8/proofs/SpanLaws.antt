@@ -9,7 +9,7 @@ use native.Mathlib.Omega.{arith}
 use Rattle.laws.proofs.WalkLaws.{walk-more, walk-last}
 use Rattle.laws.specs.Walk.{Front, more, last}
 use Rattle.text_utf8.proofs.FirstLaws.{first-of, first-none, first-nil}
-use Rattle.text_utf8.specs.Step.{subsequencesFrom, stepOf, stepAt}
+use Rattle.text_utf8.specs.Step.{subsequencesFrom, utf8Step, utf8StepAt}
 use Rattle.text_utf8.specs.Utf8.{Subsequence, scalar, illFormed, firstSubsequence, subsequences, bytes}
 use Rattle.text_utf8.specs.declared.step.Utf8Step.the-variants.{Scalar, IllFormed, End}
 use Rattle.text_utf8.specs.declared.step.Utf8Step.{Utf8Step}
@@ -39,18 +39,18 @@ module _ (s : List ℕ) (at : ℕ) where
   Says (IllFormed next) = Spans s at next (illFormed (take (next - at) (drop at s)))
   Says End = (subsequencesFrom s at ≡ []) × (length s ≤ at)
 
-  says : Says (stepAt s at)
-  unfolding stepAt subsequencesFrom subsequences
+  says : Says (utf8StepAt s at)
+  unfolding utf8StepAt subsequencesFrom subsequences
   says = go (firstSubsequence (drop at s)) refl
     where
-      go : (f : Front Subsequence) → firstSubsequence (drop at s) ≡ f → Says (stepOf at f)
+      go : (f : Front Subsequence) → firstSubsequence (drop at s) ≡ f → Says (utf8Step at f)
       go (more (scalar l) n) e = let w = spans (scalar l) n e in rw (← w .body) w
       go (more (illFormed l) n) e = let w = spans (illFormed l) n e in rw (← w .body) w
       go (last ps) e =
           let z = first-none (drop at s) ps e in
           (rw z (walk-last firstSubsequence first-nil [] [] first-nil), omega (arith, rw length-drop at (ap length z)))
 
-  pub step-says : {step : Utf8Step} → stepAt s at ≡ step → Says step
+  pub step-says : {step : Utf8Step} → utf8StepAt s at ≡ step → Says step
   step-says e = rw e at says
 
 pub span-length : {s : List ℕ} {at next : ℕ} {p : Subsequence} → Spans s at next p → at + length (bytes p) ≡ next

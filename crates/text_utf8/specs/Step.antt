@@ -12,11 +12,11 @@ unfoldable pub subsequencesFrom : List ℕ → ℕ → List Subsequence
 subsequencesFrom s at = subsequences (drop at s)
 
 -- what stands at the front of the bytes from `at` on, by its kind and the place past it
-abbrev pub stepOf : ℕ → Front Subsequence → Utf8Step
-stepOf at (more (scalar l) n) = Scalar (at + 1 + n)
-stepOf at (more (illFormed l) n) = IllFormed (at + 1 + n)
-stepOf at (last ps) = End
+abbrev pub utf8Step : ℕ → Front Subsequence → Utf8Step
+utf8Step at (more (scalar l) n) = Scalar (at + 1 + n)
+utf8Step at (more (illFormed l) n) = IllFormed (at + 1 + n)
+utf8Step at (last ps) = End
 
 -- what begins at `at`
-unfoldable pub stepAt : List ℕ → ℕ → Utf8Step
-stepAt s at = stepOf at (firstSubsequence (drop at s))
+unfoldable pub utf8StepAt : List ℕ → ℕ → Utf8Step
+utf8StepAt s at = utf8Step at (firstSubsequence (drop at s))

@@ -5,7 +5,7 @@ ghost use mathlib.Core.Path.{_≡_};
 ghost use Prim.Native.Nat.{_+_, _≤_};
 ghost use lib.ListN.{length, drop};
 ghost use Rattle.text_utf8.specs.Lead.{ranges};
-ghost use Rattle.text_utf8.specs.Step.{stepAt};
+ghost use Rattle.text_utf8.specs.Step.{utf8StepAt};
 ghost use Rattle.text_utf8.specs.Utf8.{matching, wellFormed};
 
 // What begins at a place: a well-formed sequence of one scalar value, a maximal subpart of an ill-formed one, or nothing.
@@ -46,7 +46,7 @@ fn matching_end(s: &[u8], at: usize, more: usize, low: u8, high: u8) -> usize
 
 // What begins at `at`.
 pub fn step_at(s: &[u8], at: usize) -> Utf8Step
-    ensures { λ r. ⌜ r ≡ stepAt (now (s .entry)) at ⌝ }
+    ensures { λ r. ⌜ r ≡ utf8StepAt (now (s .entry)) at ⌝ }
 {
     if s.len() <= at {
         return Utf8Step::End;

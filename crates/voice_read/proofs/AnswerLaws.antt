@@ -29,8 +29,7 @@ use Rattle.sheet.specs.Read.{bodyOf}
 use Rattle.sheet.specs.Voice.{isStereo}
 use Rattle.sheet.specs.Voice as sheet
 use Rattle.body_read.specs.Sides.{Sides, bodySides}
-use Rattle.body_read.specs.Answers.{Room, leftAfter, rightAfter}
-use Rattle.body_read.specs.Answers as side
+use Rattle.body_read.specs.Answers.{sideLengthsOf, SidesFit, leftAfter, rightAfter}
 use Rattle.body_read.specs.declared.lengths.SideLengths.the-variants as count
 use Rattle.voice_read.specs.Parsed.{lengthsOf, neededBy, fits, answerOf, after}
 use Rattle.voice_read.specs.ReadVoice.{Reading, withSides, formOf, readVoice}
@@ -42,17 +41,17 @@ use Rattle.voice_read.proofs.ReadLaws.{Given, file-given, given-sides}
 -- ---- the lengths, from those of the sides
 
 module _ (v : sheet.Voice) (bytes : List ℕ) where
-  pub needed-refused : (number : ℕ) → side.lengthsOf (bodySides (v .header) (isStereo (v .channel)) bytes) ≡ count.Refused number → Refused number ≡ neededBy (withSides v bytes)
+  pub needed-refused : (number : ℕ) → sideLengthsOf (bodySides (v .header) (isStereo (v .channel)) bytes) ≡ count.Refused number → Refused number ≡ neededBy (withSides v bytes)
   needed-refused number = go (bodySides (v .header) (isStereo (v .channel)) bytes)
     where
-      go : (o : Outcome Sides) → side.lengthsOf o ≡ count.Refused number → Refused number ≡ neededBy (andThen o (λ s. gives (record { voice = v; sides = s })))
+      go : (o : Outcome Sides) → sideLengthsOf o ≡ count.Refused number → Refused number ≡ neededBy (andThen o (λ s. gives (record { voice = v; sides = s })))
       go (gives s) e = impossible cc
       go (refuses k) e = let same : k ≡ number = cc in ap Refused (sym same)
 
-  pub needed-gives : (n left right : ℕ) → n ≡ length (flat v) → side.lengthsOf (bodySides (v .header) (isStereo (v .channel)) bytes) ≡ count.Lengths left right → Voice (record { sheet = n; left = left; right = right }) ≡ neededBy (withSides v bytes)
+  pub needed-gives : (n left right : ℕ) → n ≡ length (flat v) → sideLengthsOf (bodySides (v .header) (isStereo (v .channel)) bytes) ≡ count.Lengths left right → Voice (record { sheet = n; left = left; right = right }) ≡ neededBy (withSides v bytes)
   needed-gives n left right same = go (bodySides (v .header) (isStereo (v .channel)) bytes)
     where
-      go : (o : Outcome Sides) → side.lengthsOf o ≡ count.Lengths left right → Voice (record { sheet = n; left = left; right = right }) ≡ neededBy (andThen o (λ s. gives (record { voice = v; sides = s })))
+      go : (o : Outcome Sides) → sideLengthsOf o ≡ count.Lengths left right → Voice (record { sheet = n; left = left; right = right }) ≡ neededBy (andThen o (λ s. gives (record { voice = v; sides = s })))
       go (gives s) e =
           let l : length (s .left) ≡ left = cc in
           let r : length (s .right) ≡ right = cc in
@@ -141,7 +140,7 @@ module _ (file : List ℕ) (l : Lengths) (m : Measured (readVoice file) l) (f : 
 
   -- what writing them asks for
   pub outputs-room : length f < 2 ^ 33 → (sheet left right : ℕ) → l .sheet ≤ sheet → l .left ≤ left → l .right ≤ right
-      → Readable f × (length (flat (formVoice (itemsFrom f 12))) ≤ sheet) × Room formSides left right
+      → Readable f × (length (flat (formVoice (itemsFrom f 12))) ≤ sheet) × SidesFit formSides left right
   outputs-room short sheet left right hs hl hr =
       rw (given-sides (itemsFrom f 12) (m .reading) given)
       (record { sound = given .sound; header = given .header; short = short }, rw (← given .voice) (rw (← m .lengths) at hs), (rw (← m .lengths) at hl, rw (← m .lengths) at hr))

@@ -27,17 +27,17 @@ use Rattle.form.specs.Names.{form, formType, vhdr, body}
 use Rattle.sheet.specs.Read.{bodyOf}
 use Rattle.sheet.specs.Voice.{Voice, isStereo}
 use Rattle.body_read.specs.Sides.{Sides, bodySides}
-use Rattle.sheet_read.specs.FormVoice.{formVoice, isThere, Readable}
+use Rattle.sheet_read.specs.FormVoice.{formVoice, isSome, Readable}
 use Rattle.voice_read.specs.ReadVoice.{Reading, withChunk, withSides, readItems, formOf, headRefusal, readVoice}
 
 -- ---- the chunks of a FORM
 
 module _ {A : Type 0} (number : ℕ) (next : List ℕ → Outcome A) where
-  chunk-missing : (o : Option (List ℕ)) → isThere o ≡ false → withChunk number o next ≡ refuses number
+  chunk-missing : (o : Option (List ℕ)) → isSome o ≡ false → withChunk number o next ≡ refuses number
   chunk-missing none e = refl
   chunk-missing (some b) e = absurd (true≢false e)
 
-  chunk-there : (o : Option (List ℕ)) → isThere o ≡ true → withChunk number o next ≡ next (bodyOf o)
+  chunk-there : (o : Option (List ℕ)) → isSome o ≡ true → withChunk number o next ≡ next (bodyOf o)
   chunk-there none e = absurd (true≢false (sym e))
   chunk-there (some b) e = refl
 
@@ -56,18 +56,18 @@ module _ (items : List Item) where
     unfolding readItems
     items-sound = rw (eq-eqb (firstBad items) 0 sound)
 
-    pub items-headless : isThere (firstOf vhdr items) ≡ false → readItems items ≡ refuses noHeader
+    pub items-headless : isSome (firstOf vhdr items) ≡ false → readItems items ≡ refuses noHeader
     items-headless e = items-sound ∙ chunk-missing noHeader (λ header. withBody) (firstOf vhdr items) e
 
-    module _ (header : isThere (firstOf vhdr items) ≡ true) where
+    module _ (header : isSome (firstOf vhdr items) ≡ true) where
       -- where there is a VHDR
       items-headed : readItems items ≡ withBody
       items-headed = items-sound ∙ chunk-there noHeader (λ header. withBody) (firstOf vhdr items) header
 
-      pub items-bodiless : isThere (firstOf body items) ≡ false → readItems items ≡ refuses noBody
+      pub items-bodiless : isSome (firstOf body items) ≡ false → readItems items ≡ refuses noBody
       items-bodiless e = items-headed ∙ chunk-missing noBody (withSides (formVoice items)) (firstOf body items) e
 
-      pub items-whole : isThere (firstOf body items) ≡ true → readItems items ≡ withSides (formVoice items) (bodyOf (firstOf body items))
+      pub items-whole : isSome (firstOf body items) ≡ true → readItems items ≡ withSides (formVoice items) (bodyOf (firstOf body items))
       items-whole e = items-headed ∙ chunk-there noBody (withSides (formVoice items)) (firstOf body items) e
 
 -- ---- a file
@@ -108,7 +108,7 @@ never e = impossible cc
 -- the chunks that a reading is of
 pub record Given (items : List Item) (r : Reading) : Type 0 where
   pub sound : firstBad items ≡ 0
-  pub header : isThere (firstOf vhdr items) ≡ true
+  pub header : isSome (firstOf vhdr items) ≡ true
   pub bytes : List ℕ
   pub body : firstOf body items ≡ some bytes
   pub voice : r .voice ≡ formVoice items
@@ -132,28 +132,28 @@ sided v bytes r = go (bodySides (v .header) (isStereo (v .channel)) bytes) refl
         record { voice = same; sides = rw same (q ∙ last) }
     go (refuses k) q e = never e
 
-there : (o : Option (List ℕ)) → isThere o ≡ true → o ≡ some (bodyOf o)
+there : (o : Option (List ℕ)) → isSome o ≡ true → o ≡ some (bodyOf o)
 there none e = absurd (true≢false (sym e))
 there (some b) e = refl
 
 pub items-given : (items : List Item) (r : Reading) → readItems items ≡ gives r → Given items r
 items-given items r e = bad-or (eqb (firstBad items) 0) refl
   where
-    whole : firstBad items ≡ 0 → isThere (firstOf vhdr items) ≡ true → isThere (firstOf body items) ≡ true → Given items r
+    whole : firstBad items ≡ 0 → isSome (firstOf vhdr items) ≡ true → isSome (firstOf body items) ≡ true → Given items r
     whole sound header present =
         let s = sided (formVoice items) (bodyOf (firstOf body items)) r (sym (items-whole items sound header present) ∙ e) in
         record { sound = sound; header = header; bytes = bodyOf (firstOf body items); body = there (firstOf body items) present; voice = s .voice; sides = s .sides }
 
-    body-or : firstBad items ≡ 0 → isThere (firstOf vhdr items) ≡ true → (t : Bool) → isThere (firstOf body items) ≡ t → Given items r
+    body-or : firstBad items ≡ 0 → isSome (firstOf vhdr items) ≡ true → (t : Bool) → isSome (firstOf body items) ≡ t → Given items r
     body-or sound header true p = whole sound header p
     body-or sound header false p = never (sym (items-bodiless items sound header p) ∙ e)
 
-    header-or : firstBad items ≡ 0 → (t : Bool) → isThere (firstOf vhdr items) ≡ t → Given items r
-    header-or sound true p = body-or sound p (isThere (firstOf body items)) refl
+    header-or : firstBad items ≡ 0 → (t : Bool) → isSome (firstOf vhdr items) ≡ t → Given items r
+    header-or sound true p = body-or sound p (isSome (firstOf body items)) refl
     header-or sound false p = never (sym (items-headless items sound p) ∙ e)
 
     bad-or : (t : Bool) → eqb (firstBad items) 0 ≡ t → Given items r
-    bad-or true p = header-or (eqb-true (firstBad items) 0 p) (isThere (firstOf vhdr items)) refl
+    bad-or true p = header-or (eqb-true (firstBad items) 0 p) (isSome (firstOf vhdr items)) refl
     bad-or false p = never (sym (items-bad items (eqb-false (firstBad items) 0 p)) ∙ e)
 
 -- the part that is walked is at most as long as its length field can say

@@ -19,9 +19,9 @@ use Rattle.small_chunks.specs.declared.channel.ChannelAssignment.the-variants.{
 use Rattle.small_chunks.specs.declared.channel.ParsedChannel.the-variants.{Parsed, Refused}
 use Rattle.chunk.specs.Chunk.{itemsFrom}
 use Rattle.form.specs.FirstBad.{firstBad}
-use Rattle.form.specs.Find.{Found}
 use Rattle.form.specs.Names.{vhdr, chan}
 use Rattle.form.specs.declared.place.Place.the-variants.{At, Absent}
+use Rattle.form.proofs.FindLaws.{Found}
 use Rattle.sheet.specs.Read.{knownChannel}
 use Rattle.sheet.specs.Voice.{isStereo}
 use Rattle.sheet_read.specs.FormVoice.{formVoice, Readable}

@@ -7,6 +7,7 @@ use form::Place;
 use form::find;
 use form::first_bad;
 use header::VoiceHeader;
+use header::read_header;
 use sheet_read::put_sheet;
 use sheet_read::sheet_length;
 ghost use mathlib.Core.Path.{_≡_};
@@ -17,13 +18,13 @@ ghost use Rattle.chunk.specs.Chunk.{itemsFrom};
 ghost use Rattle.form.specs.FirstBad.{firstBad};
 ghost use Rattle.form.specs.Find.{firstOf};
 ghost use Rattle.form.specs.Names.{body};
-ghost use Rattle.sheet_read.specs.FormVoice.{formVoice, isThere, Readable};
+ghost use Rattle.sheet_read.specs.FormVoice.{formVoice, isSome, Readable};
 ghost use Rattle.laws.specs.Buffer.{written};
 ghost use Rattle.sheet.specs.Flat.{flat};
 ghost use Rattle.sheet.specs.Read.{bodyOf};
 ghost use Rattle.sheet.specs.Voice.{isStereo};
 ghost use Rattle.body_read.specs.Sides.{bodySides};
-ghost use Rattle.body_read.specs.Answers.{Room, leftAfter, rightAfter};
+ghost use Rattle.body_read.specs.Answers.{SidesFit, leftAfter, rightAfter};
 ghost use Rattle.voice_read.specs.Parsed.{neededBy};
 ghost use Rattle.voice_read.specs.ReadVoice.{withSides, readItems};
 
@@ -41,7 +42,7 @@ pub enum Parsed {
 
 // That there is no chunk of a name.
 fn is_missing(form: &[u8], id: u32) -> bool
-    ensures { λ r. ⌜ r ≡ not (isThere (firstOf id (itemsFrom (now (form .entry)) 12))) ⌝ }
+    ensures { λ r. ⌜ r ≡ not (isSome (firstOf id (itemsFrom (now (form .entry)) 12))) ⌝ }
 {
     match find(form, id) {
         Place::Absent => true,
@@ -55,7 +56,7 @@ fn header_of(form: &[u8]) -> VoiceHeader
     ensures { λ r. ⌜ r ≡ formVoice (itemsFrom (now (form .entry)) 12) .header ⌝ }
 {
     match find(form, form::VHDR) {
-        Place::At(start, _) => VoiceHeader::read(form, start),
+        Place::At(start, _) => read_header(form, start),
         Place::Absent => VoiceHeader {
             one_shot_hi_samples: 0,
             repeat_hi_samples: 0,
@@ -128,7 +129,7 @@ pub(crate) fn form_lengths(form: &[u8]) -> Parsed
 
 // Sheet and samples, at the fronts of buffers that are long enough.
 pub(crate) fn write_outputs(form: &[u8], sheet: &mut [u8], left: &mut [i8], right: &mut [i8])
-    requires { ⌜ Readable (now form) × (length (flat (formVoice (itemsFrom (now form) 12))) ≤ length (now sheet)) × Room (bodySides (formVoice (itemsFrom (now form) 12) .header) (isStereo (formVoice (itemsFrom (now form) 12) .channel)) (bodyOf (firstOf body (itemsFrom (now form) 12)))) (length (now left)) (length (now right)) ⌝ }
+    requires { ⌜ Readable (now form) × (length (flat (formVoice (itemsFrom (now form) 12))) ≤ length (now sheet)) × SidesFit (bodySides (formVoice (itemsFrom (now form) 12) .header) (isStereo (formVoice (itemsFrom (now form) 12) .channel)) (bodyOf (firstOf body (itemsFrom (now form) 12)))) (length (now left)) (length (now right)) ⌝ }
     ensures sheet { λ _. ⌜ now (sheet .exit) ≡ written (flat (formVoice (itemsFrom (now (form .entry)) 12))) (now (sheet .entry)) ⌝ }
     ensures left { λ _. ⌜ now (left .exit) ≡ leftAfter (bodySides (formVoice (itemsFrom (now (form .entry)) 12) .header) (isStereo (formVoice (itemsFrom (now (form .entry)) 12) .channel)) (bodyOf (firstOf body (itemsFrom (now (form .entry)) 12)))) (now (left .entry)) ⌝ }
     ensures right { λ _. ⌜ now (right .exit) ≡ rightAfter (bodySides (formVoice (itemsFrom (now (form .entry)) 12) .header) (isStereo (formVoice (itemsFrom (now (form .entry)) 12) .channel)) (bodyOf (firstOf body (itemsFrom (now (form .entry)) 12)))) (now (right .entry)) ⌝ }

@@ -3,7 +3,7 @@
 --     named-sound, texts-sound       chunks of one name, and texts, before others
 -- Assumes nothing.
 use Prim.Native.Nat.{ℕ, _+_, _%_, _≤_}
-use mathlib.Core.Bool.{Bool, true, false, cond, not, true≢false}
+use mathlib.Core.Bool.{Bool, true, false, true≢false}
 use mathlib.Core.List.{List, [], _∷_, _++_, map}
 use mathlib.Core.Option.{Option, none, some}
 use mathlib.Core.Path.{_≡_, refl, sym, ap, _∙_}
@@ -16,15 +16,13 @@ use Rattle.laws.proofs.Table.{below}
 use Rattle.field.proofs.BigEndianLaws.{bytes-length}
 use Rattle.small_chunks.specs.Channel.{channelValueOf}
 use Rattle.small_chunks.specs.declared.channel.ChannelAssignment.{ChannelAssignment}
-use Rattle.small_chunks.specs.declared.channel.ChannelAssignment.the-variants.{Left, Right, Stereo}
+use Rattle.small_chunks.proofs.ChannelLaws.{channel-known}
 use Rattle.chunk.specs.Chunk.{Item}
-use Rattle.refusal.specs.Numbers.{channelValue}
 use Rattle.form.specs.Kind.{kindOf, least, unit, single, lengthWrong}
 use Rattle.form.specs.FirstBad.{channelWrong, chunkWrong, badFrom}
 use Rattle.form.proofs.Unknown.{bad-same}
 use Rattle.sheet.specs.Voice.{Text}
 use Rattle.sheet.specs.Allowed.{All, TextAllowed}
-use Rattle.sheet.specs.Order.{channelKnown}
 use Rattle.sheet_grammar.proofs.FormLaws.{listed}
 use Rattle.sheet_write.specs.VoiceChunks.{textName}
 use Rattle.voice_round_trip.proofs.Items.{named, channelPayload, channel-number, textItem}
@@ -55,13 +53,8 @@ channel-right c =
     rw (
       length-right 2 (length (channelPayload c)) (omega (arith, bytes-length 4 (channelValueOf c))) (omega (arith, bytes-length 4 (channelValueOf c))),
       channel-number c,
+      channel-known c,
     )
-    (known c)
-  where
-    known : (c : ChannelAssignment) → cond (not (channelKnown (channelValueOf c))) channelValue 0 ≡ 0
-    known Left = refl
-    known Right = refl
-    known Stereo = refl
 
 -- ---- chunks before others
 

@@ -31,7 +31,7 @@ use Rattle.sheet.specs.Read.{first, mapOption}
 use Rattle.sheet_grammar.proofs.ListLaws.{map-back}
 use Rattle.sheet_grammar.proofs.FormLaws.{listed}
 use Rattle.sheet_grammar.proofs.FieldForms.{header-body, pan-body, point-body, segment-body, fade-body}
-use Rattle.sheet_read.specs.FormVoice.{channelIn, textKey, formVoice}
+use Rattle.sheet_read.specs.FormVoice.{chunkChannel, textKey, formVoice}
 use Rattle.voice_round_trip.proofs.Items.{channelPayload, channel-number, voiceItems}
 use Rattle.voice_round_trip.proofs.FindLaws.{first-all, payloads, items-all, items-texts}
 
@@ -59,7 +59,7 @@ option-back : {A : Type 0} {F : A → Type 0} (write : A → List ℕ) (read : L
 option-back write read back none h = refl
 option-back write read back (some a) h = ap some (back a h)
 
-channel-in : (o : Option ChannelAssignment) → channelIn (first (map channelPayload (listed o))) ≡ o
+channel-in : (o : Option ChannelAssignment) → chunkChannel (first (map channelPayload (listed o))) ≡ o
 channel-in none = refl
 channel-in (some c) = rw (channel-number c, channel-back c)
 

@@ -41,4 +41,4 @@ writeVoice v s =
 
 -- the file of a sheet and its samples
 abbrev pub writeSheet : List ℕ → Sides → Outcome (List ℕ)
-writeSheet sheet s = ifSound (judged sheet) (writeVoice (readSheet sheet) s)
+writeSheet sheet s = ifSound (judged sheet) refuses (writeVoice (readSheet sheet) s)

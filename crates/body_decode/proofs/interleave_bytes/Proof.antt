@@ -7,14 +7,14 @@ use native.Mathlib.Omega.{arith}
 use lib.ListN.{length, take, drop, length-set}
 use lib.Seq.{getD-take, length-take-le}
 use Rattle.laws.proofs.Prefix.{prefix-whole}
-use Rattle.body_decode.specs.Body.{interleaved}
-use Rattle.body_decode.proofs.InterleaveLaws.{interleaved-length, frame-stored}
+use Rattle.body_decode.specs.Body.{byTurns}
+use Rattle.body_decode.proofs.InterleaveLaws.{by-turns-length, frame-stored}
 use Rattle.body_decode.proofs.interleave_bytes.Statement.{statement}
 use Rattle.body_decode.proofs.interleave_bytes.Tie as tie
 
 abbrev Inv-loop : tie.InvT-loop
 Inv-loop left right out₀ n i₀ out i =
-    (i ≤ n) × (length out ≡ length out₀) × (out ≡ take (i + i) (interleaved (take n left) (take n right)) ++ drop (i + i) out₀)
+    (i ≤ n) × (length out ≡ length out₀) × (out ≡ take (i + i) (byTurns (take n left) (take n right)) ++ drop (i + i) out₀)
 
 abbrev μ-loop : tie.MeasureT-loop
 μ-loop left right out₀ n i₀ out i = n - i
@@ -74,8 +74,8 @@ returns c =
     let a = c .before .before .args in
     let ls = take (a .n) (a .left .now) in
     let rs = take (a .n) (a .right .now) in
-    let long = interleaved-length ls rs (a .n) (length-take-le (a .n) (a .left .now) (omega arith)) (length-take-le (a .n) (a .right .now) (omega arith)) in
-    l .inv .2 ∙ prefix-whole (interleaved ls rs) (a .out .now) (l .i + l .i) (omega (arith, long))
+    let long = by-turns-length ls rs (a .n) (length-take-le (a .n) (a .left .now) (omega arith)) (length-take-le (a .n) (a .right .now) (omega arith)) in
+    l .inv .2 ∙ prefix-whole (byTurns ls rs) (a .out .now) (l .i + l .i) (omega (arith, long))
 
 pub interleave-bytes-spec : {M : Type 1} → statement M
 interleave-bytes-spec =

@@ -12,17 +12,17 @@ use Rattle.laws.proofs.Prefix.{prefix-whole}
 use Rattle.laws.proofs.Signed.{back}
 use Rattle.field.specs.Signed.{byteOf}
 use Rattle.fibonacci.specs.Decode.{fibSamples}
-use Rattle.body_decode.specs.Body.{interleaved, frameBytes}
+use Rattle.body_decode.specs.Body.{byTurns, frameBytes}
 use Rattle.body_decode.proofs.BodyLaws.{frame-length, frame-at}
 use Rattle.body_decode.proofs.NibbleLaws.{sample-first, sample-after}
-use Rattle.body_decode.proofs.InterleaveLaws.{interleaved-length, frame-stored}
+use Rattle.body_decode.proofs.InterleaveLaws.{by-turns-length, frame-stored}
 use Rattle.body_decode.proofs.interleave_fibonacci.Statement.{statement}
 use Rattle.body_decode.proofs.interleave_fibonacci.Tie as tie
 
 abbrev Inv-loop : tie.InvT-loop
 Inv-loop left right out₀ n a₀ b₀ i₀ out a b i =
     (i ≤ n) × (length out ≡ length out₀)
-    × (out ≡ take (i + i) (interleaved (frameBytes n (fibSamples left)) (frameBytes n (fibSamples right))) ++ drop (i + i) out₀)
+    × (out ≡ take (i + i) (byTurns (frameBytes n (fibSamples left)) (frameBytes n (fibSamples right))) ++ drop (i + i) out₀)
     × (i < length (fibSamples left) → toZ w8 a ≡ getD (fibSamples left) i (pos 0))
     × (i < length (fibSamples right) → toZ w8 b ≡ getD (fibSamples right) i (pos 0))
 
@@ -115,8 +115,8 @@ returns c =
     let a = c .before .before .before .before .before .before .before .before .before .args in
     let ls = fibSamples (a .left .now) in
     let rs = fibSamples (a .right .now) in
-    let long = interleaved-length (frameBytes (a .n) ls) (frameBytes (a .n) rs) (a .n) (frame-length (a .n) ls (omega arith)) (frame-length (a .n) rs (omega arith)) in
-    l .inv .2 ∙ prefix-whole (interleaved (frameBytes (a .n) ls) (frameBytes (a .n) rs)) (a .out .now) (l .i + l .i) (omega (arith, long))
+    let long = by-turns-length (frameBytes (a .n) ls) (frameBytes (a .n) rs) (a .n) (frame-length (a .n) ls (omega arith)) (frame-length (a .n) rs (omega arith)) in
+    l .inv .2 ∙ prefix-whole (byTurns (frameBytes (a .n) ls) (frameBytes (a .n) rs)) (a .out .now) (l .i + l .i) (omega (arith, long))
 
 pub interleave-fibonacci-spec : {M : Type 1} → statement M
 interleave-fibonacci-spec =

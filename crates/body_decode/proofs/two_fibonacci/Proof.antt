@@ -13,7 +13,7 @@ use Rattle.header.specs.declared.compression.Compression.the-variants.{Fibonacc
 use Rattle.fibonacci.specs.Decode.{fibSamples}
 use Rattle.fibonacci.proofs.DecodeLaws.{samples-length}
 use Rattle.samples.specs.Halves.{leftHalf, rightHalf}
-use Rattle.body_decode.specs.Body.{interleaved, frameBytes, twoChannels}
+use Rattle.body_decode.specs.Body.{byTurns, frameBytes, twoChannels}
 use Rattle.body_decode.proofs.BodyLaws.{half-length, right-length, two-odd, two-short, two-fibonacci-is, halves-length, halves-are}
 use Rattle.body_decode.proofs.two_fibonacci.Statement.{statement}
 use Rattle.body_decode.proofs.two_fibonacci.Tie as tie
@@ -56,7 +56,7 @@ returns-3 c =
     let n = e .least .result in
     let ls = fibSamples (leftHalf body) in
     let rs = fibSamples (rightHalf body) in
-    outcome-short (twoChannels Fibonacci limit body) (a .out .now) (interleaved (frameBytes limit ls) (frameBytes limit rs)) (two-fibonacci-is limit body (e .before .before .if1 .left) (e .before .if2 .left)) (n + n) (halves-length limit ls rs n (left-count e) (right-count e)) (c .if3 .taken)
+    outcome-short (twoChannels Fibonacci limit body) (a .out .now) (byTurns (frameBytes limit ls) (frameBytes limit rs)) (two-fibonacci-is limit body (e .before .before .if1 .left) (e .before .if2 .left)) (n + n) (halves-length limit ls rs n (left-count e) (right-count e)) (c .if3 .taken)
 
 left-half-requires : tie.Need-left-half-requires
 left-half-requires c κs = search needs
@@ -87,7 +87,7 @@ returns-4 c =
     let ls = fibSamples (leftHalf body) in
     let rs = fibSamples (rightHalf body) in
     let halves = rw (h .before .left-half .ensures .0, h .right-half .ensures .0) at (c .before .before .interleave-fibonacci .ensures) in
-    outcome-fits (twoChannels Fibonacci limit body) (a .out .now) (interleaved (frameBytes limit ls) (frameBytes limit rs)) (two-fibonacci-is limit body (e .before .before .if1 .left) (e .before .if2 .left)) (n + n) (halves-length limit ls rs n (left-count e) (right-count e)) _ (f .if3 .left) (halves ∙ ap (λ (l : List ℕ). written l (a .out .now)) (halves-are limit ls rs n (left-count e) (right-count e)))
+    outcome-fits (twoChannels Fibonacci limit body) (a .out .now) (byTurns (frameBytes limit ls) (frameBytes limit rs)) (two-fibonacci-is limit body (e .before .before .if1 .left) (e .before .if2 .left)) (n + n) (halves-length limit ls rs n (left-count e) (right-count e)) _ (f .if3 .left) (halves ∙ ap (λ (l : List ℕ). written l (a .out .now)) (halves-are limit ls rs n (left-count e) (right-count e)))
 
 pub two-fibonacci-spec : {M : Type 1} → statement M
 two-fibonacci-spec =

@@ -11,7 +11,7 @@ use Rattle.laws.specs.Buffer.{written}
 use Rattle.refusal.proofs.OutcomeLaws.{outcome-fits, outcome-short}
 use Rattle.header.specs.declared.compression.Compression.the-variants.{None}
 use Rattle.samples.specs.Halves.{leftHalf, rightHalf}
-use Rattle.body_decode.specs.Body.{interleaved, twoChannels}
+use Rattle.body_decode.specs.Body.{byTurns, twoChannels}
 use Rattle.body_decode.proofs.BodyLaws.{half-length, right-length, two-raw-is, raw-halves-length, raw-halves-are}
 use Rattle.body_decode.proofs.two_raw.Statement.{statement}
 use Rattle.body_decode.proofs.two_raw.Tie as tie
@@ -33,7 +33,7 @@ returns c =
     let limit = a .frames in
     let body = a .body .now in
     let n = e .least .result in
-    outcome-short (twoChannels None limit body) (a .out .now) (interleaved (take limit (leftHalf body)) (take limit (rightHalf body))) (two-raw-is limit body (bytes e)) (n + n) (raw-halves-length limit body n (e .least .ensures)) (c .if1 .taken)
+    outcome-short (twoChannels None limit body) (a .out .now) (byTurns (take limit (leftHalf body)) (take limit (rightHalf body))) (two-raw-is limit body (bytes e)) (n + n) (raw-halves-length limit body n (e .least .ensures)) (c .if1 .taken)
 
 left-half-requires : tie.Need-left-half-requires
 left-half-requires c κs = search needs
@@ -61,7 +61,7 @@ returns-2 c =
     let body = a .body .now in
     let n = e .least .result in
     let halves = rw (h .before .left-half .ensures .0, h .right-half .ensures .0) at (c .before .before .interleave-bytes .ensures) in
-    outcome-fits (twoChannels None limit body) (a .out .now) (interleaved (take limit (leftHalf body)) (take limit (rightHalf body))) (two-raw-is limit body (bytes e)) (n + n) (raw-halves-length limit body n (e .least .ensures)) _ (f .if1 .left) (halves ∙ ap (λ (l : List ℕ). written l (a .out .now)) (raw-halves-are limit body n (e .least .ensures)))
+    outcome-fits (twoChannels None limit body) (a .out .now) (byTurns (take limit (leftHalf body)) (take limit (rightHalf body))) (two-raw-is limit body (bytes e)) (n + n) (raw-halves-length limit body n (e .least .ensures)) _ (f .if1 .left) (halves ∙ ap (λ (l : List ℕ). written l (a .out .now)) (raw-halves-are limit body n (e .least .ensures)))
 
 pub two-raw-spec : {M : Type 1} → statement M
 two-raw-spec =

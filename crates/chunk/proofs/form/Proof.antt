@@ -1,11 +1,11 @@
--- `chunk::form` meets its contract: the walk ends within the file.
+-- `chunk::form` meets its contract: the walk ends within the file, and the part begins at its front.
 -- Assumes nothing.
 use Prim.Native.Nat.{ℕ}
 use borrow.Author.Needs.{needs}
 use denote.Ref.{now}
 use lib.ListN.{length, take}
 use lib.Seq.{length-take-le}
-use mathlib.Core.Path.{_≡_, sym, ap}
+use mathlib.Core.Path.{_≡_, refl, sym, ap}
 use native.Mathlib.Omega.{arith}
 use Rattle.chunk.proofs.form.Statement.{statement}
 use Rattle.chunk.proofs.form.Tie as tie
@@ -21,7 +21,7 @@ slice-aggregate-result : tie.Need-slice-aggregate-result
 slice-aggregate-result c = long c
 
 returns : tie.Need-returns
-returns c = (ap (λ (n : ℕ). take n (now (c .before .before .before .args .file))) (c .before .walk-end .ensures .0), omega (arith, long c))
+returns c = (ap (λ (n : ℕ). take n (now (c .before .before .before .args .file))) (c .before .walk-end .ensures .0), (omega (arith, long c), refl))
 
 pub form-spec : {M : Type 1} → statement M
 form-spec = tie.close (tie.spec walk-end-requires slice-aggregate-result returns)

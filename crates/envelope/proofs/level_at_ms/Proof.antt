@@ -20,8 +20,8 @@ Inv-loop points start t-ms level₀ left₀ at₀ level left at = (at ≤ length
 abbrev μ-loop : tie.MeasureT-loop
 μ-loop points start t-ms level₀ left₀ at₀ level left at = length points - at
 
-module _ (c : tie.After-read Inv-loop μ-loop) where
-  dest-is : toZ w32 (ofZ w32 (c .read .result .dest)) ≡ c .read .result .dest
+module _ (c : tie.After-read-point Inv-loop μ-loop) where
+  dest-is : toZ w32 (ofZ w32 (c .read-point .result .dest)) ≡ c .read-point .result .dest
   dest-is = toZ-ofZ (search needs)
 
 -- the start, as the machine reads it back
@@ -34,8 +34,8 @@ loop-holds c = (omega arith, refl)
 sub-loop : tie.Need-sub-loop Inv-loop μ-loop
 sub-loop c = c .loop .inv .0
 
-read-requires : tie.Need-read-requires Inv-loop μ-loop
-read-requires c κs = let h = c .before .loop .inv .0 in omega (arith, h, c .loop-test .taken)
+read-point-requires : tie.Need-read-point-requires Inv-loop μ-loop
+read-point-requires c κs = let h = c .before .loop .inv .0 in omega (arith, h, c .loop-test .taken)
 
 cast-duration : tie.Need-cast-duration Inv-loop μ-loop
 cast-duration c = search needs
@@ -52,7 +52,7 @@ returns c =
     let l = r .before .before in
     back w32 (c .on-the-way .ok)
     ∙ rw (dest-is r) at (c .on-the-way .ensures)
-    ∙ sym (on-way (l .before .before .args .points .now) (l .loop .at) (r .read .result) (r .read .ensures) (r .before .loop-test .taken) (toZ w32 (l .loop .level)) (l .loop .left) (c .before .before .if1 .taken))
+    ∙ sym (on-way (l .before .before .args .points .now) (l .loop .at) (r .read-point .result) (r .read-point .ensures) (r .before .loop-test .taken) (toZ w32 (l .loop .level)) (l .loop .left) (c .before .before .if1 .taken))
     ∙ l .loop .inv .1
     ∙ start-is (l .before .before)
 
@@ -69,7 +69,7 @@ loop-again c =
     let h = l .loop .inv .0 in (
       omega (arith, h, r .before .loop-test .taken),
       rw (dest-is r)
-          (sym (passed (l .before .before .args .points .now) (l .loop .at) (r .read .result) (r .read .ensures) (r .before .loop-test .taken) (toZ w32 (l .loop .level)) (l .loop .left) (c .before .if1 .left)) ∙ l .loop .inv .1),
+          (sym (passed (l .before .before .args .points .now) (l .loop .at) (r .read-point .result) (r .read-point .ensures) (r .before .loop-test .taken) (toZ w32 (l .loop .level)) (l .loop .left) (c .before .if1 .left)) ∙ l .loop .inv .1),
     )
 
 returns-2 : tie.Need-returns-2 Inv-loop μ-loop
@@ -85,7 +85,7 @@ level-at-ms-spec =
     μ-loop
     loop-holds
     sub-loop
-    read-requires
+    read-point-requires
     cast-duration
     cast-on-the-way
     on-the-way-requires

@@ -19,10 +19,10 @@ abbrev μ-loop : tie.MeasureT-loop
 μ-loop points sum₀ at₀ sum at = length points - at
 
 -- the sum with the point that was read, and the points past it
-more : (c : tie.After-read Inv-loop μ-loop) → c .before .before .loop .sum + c .read .result .«duration_ms» + totalDuration (envelopePoints (drop (c .before .before .loop .at + 6) (c .before .before .before .before .args .points .now))) ≡ totalDuration (envelopePoints (c .before .before .before .before .args .points .now))
+more : (c : tie.After-read-point Inv-loop μ-loop) → c .before .before .loop .sum + c .read-point .result .«duration_ms» + totalDuration (envelopePoints (drop (c .before .before .loop .at + 6) (c .before .before .before .before .args .points .now))) ≡ totalDuration (envelopePoints (c .before .before .before .before .args .points .now))
 more c =
     let l = c .before .before in
-    omega (arith, l .loop .inv .2, total-more (l .before .before .args .points .now) (l .loop .at) (c .read .result) (c .read .ensures) (c .before .loop-test .taken))
+    omega (arith, l .loop .inv .2, total-more (l .before .before .args .points .now) (l .loop .at) (c .read-point .result) (c .read-point .ensures) (c .before .loop-test .taken))
 
 loop-holds : tie.Need-loop-holds Inv-loop μ-loop
 loop-holds c = (omega arith, omega arith, omega arith)
@@ -30,8 +30,8 @@ loop-holds c = (omega arith, omega arith, omega arith)
 sub-loop : tie.Need-sub-loop Inv-loop μ-loop
 sub-loop c = c .loop .inv .0
 
-read-requires : tie.Need-read-requires Inv-loop μ-loop
-read-requires c κs = omega arith
+read-point-requires : tie.Need-read-point-requires Inv-loop μ-loop
+read-point-requires c κs = omega arith
 
 cast-duration : tie.Need-cast-duration Inv-loop μ-loop
 cast-duration c = search needs
@@ -67,7 +67,7 @@ total-duration-ms-spec =
     μ-loop
     loop-holds
     sub-loop
-    read-requires
+    read-point-requires
     cast-duration
     sub-if1
     returns

@@ -27,7 +27,7 @@ long : (c : tie.In-loop Inv-loop μ-loop) → c .before .loop .at + 7 ≤ length
 long c = point-long (c .before .loop .inv) (c .loop-test .taken)
 
 -- the level that was read, as the machine reads it back
-dest-is : (c : tie.After-read Inv-loop μ-loop) → toZ w32 (ofZ w32 (c .read .result .dest)) ≡ c .read .result .dest
+dest-is : (c : tie.After-read-point Inv-loop μ-loop) → toZ w32 (ofZ w32 (c .read-point .result .dest)) ≡ c .read-point .result .dest
 dest-is c = toZ-ofZ (search needs)
 
 next-member-requires : tie.Need-next-member-requires Inv-loop μ-loop
@@ -41,8 +41,8 @@ loop-holds c =
 add-body : tie.Need-add-body Inv-loop μ-loop
 add-body c = omega arith
 
-read-requires : tie.Need-read-requires Inv-loop μ-loop
-read-requires c κs = omega (arith, long c)
+read-point-requires : tie.Need-read-point-requires Inv-loop μ-loop
+read-point-requires c κs = omega (arith, long c)
 
 sub-into : tie.Need-sub-into Inv-loop μ-loop
 sub-into c = c .before .before .loop .inv .passed
@@ -65,7 +65,7 @@ returns c =
     let l = r .before .before in
     let a = l .before .before .before .before in
     stopped-way (a .args .part .now) (a .args .e) (a .args .t) (l .before .next-member .result) (l .loop .at) (l .loop .before) (toZ w32 (l .loop .level)) (c .held-to-unity .result) (search needs) (l .before .next-member .ensures) (l .loop .inv)
-    (r .read .result) (toZ w32 (ofZ w32 (r .read .result .dest))) (r .before .loop-test .taken) (r .read .ensures) (dest-is r) (c .before .before .before .if1 .taken)
+    (r .read-point .result) (toZ w32 (ofZ w32 (r .read-point .result .dest))) (r .before .loop-test .taken) (r .read-point .ensures) (dest-is r) (c .before .before .before .if1 .taken)
     (c .held-to-unity .ensures ∙ ap heldToUnity (back w32 (c .before .on-the-way .ok) ∙ c .before .on-the-way .ensures))
 
 add-before : tie.Need-add-before Inv-loop μ-loop
@@ -86,7 +86,7 @@ loop-less c =
 loop-again : tie.Need-loop-again Inv-loop μ-loop
 loop-again c =
     let r = c .before .before .before .before in
-    passed-more (r .before .before .loop .inv) (r .read .result) (toZ w32 (ofZ w32 (r .read .result .dest))) (c .next-member2 .result) (r .before .loop-test .taken) (r .read .ensures) (dest-is r) (c .before .before .if1 .left) (c .next-member2 .ensures)
+    passed-more (r .before .before .loop .inv) (r .read-point .result) (toZ w32 (ofZ w32 (r .read-point .result .dest))) (c .next-member2 .result) (r .before .loop-test .taken) (r .read-point .ensures) (dest-is r) (c .before .before .if1 .left) (c .next-member2 .ensures)
 
 held-to-unity-requires-2 : tie.Need-held-to-unity-requires-2 Inv-loop μ-loop
 held-to-unity-requires-2 c κs = tt
@@ -106,7 +106,7 @@ seek-spec =
     next-member-requires
     loop-holds
     add-body
-    read-requires
+    read-point-requires
     sub-into
     cast-duration
     cast-on-the-way

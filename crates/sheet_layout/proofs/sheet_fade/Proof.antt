@@ -32,14 +32,14 @@ here c =
 add-body : tie.Need-add-body
 add-body c = let p = here c in omega arith
 
-read-requires : tie.Need-read-requires
-read-requires c κs = let p = here c in omega (arith, fade-length (p .value))
+read-fade-requires : tie.Need-read-fade-requires
+read-fade-requires c κs = let p = here c in omega (arith, fade-length (p .value))
 
 returns-2 : tie.Need-returns-2
 returns-2 c =
     let start = c .before .before .before .before in
     let allowed = sound-allowed (start .args .sheet .now) (c .before .before .before .shared-slice-known .given) (start .pre .0) in
-    ap Fades (c .read .ensures) ∙ sym (ap fadeAnswer (present-read fadeOf FadeFits (λ a r f. fade-back a r (f .segment)) (here (c .before)) (allowed .fade)))
+    ap Fades (c .read-fade .ensures) ∙ sym (ap fadeAnswer (present-read fadeOf FadeFits (λ a r f. fade-back a r (f .segment)) (here (c .before)) (allowed .fade)))
 
 pub sheet-fade-spec : {M : Type 1} → statement M
-sheet-fade-spec = tie.close (tie.spec returns add-body read-requires returns-2)
+sheet-fade-spec = tie.close (tie.spec returns add-body read-fade-requires returns-2)

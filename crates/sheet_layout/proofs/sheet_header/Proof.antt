@@ -21,8 +21,8 @@ header-here c =
     let s = c .before .args .sheet .now in
     at-header (readSheet s) s (sound-flat s (c .shared-slice-known .given) (c .before .pre))
 
-read-requires : tie.Need-read-requires
-read-requires c κs =
+read-header-requires : tie.Need-read-header-requires
+read-header-requires c κs =
     let s = c .before .args .sheet .now in
     let v = readSheet s in
     omega (arith, ap length (header-here c), length-drop 1 s, length-append (headerBytes (v .header)) (fromChannel v), header-length (v .header))
@@ -32,7 +32,7 @@ returns c =
     let s = c .before .before .args .sheet .now in
     let v = readSheet s in
     let allowed = sound-allowed s (c .before .shared-slice-known .given) (c .before .before .pre) in
-    c .read .ensures ∙ ap headerOf (header-here (c .before)) ∙ header-back (v .header) (fromChannel v) (allowed .header)
+    c .read-header .ensures ∙ ap headerOf (header-here (c .before)) ∙ header-back (v .header) (fromChannel v) (allowed .header)
 
 pub sheet-header-spec : {M : Type 1} → statement M
-sheet-header-spec = tie.close (tie.spec read-requires returns)
+sheet-header-spec = tie.close (tie.spec read-header-requires returns)

@@ -32,14 +32,14 @@ here c =
 add-body : tie.Need-add-body
 add-body c = let p = here c in omega arith
 
-read-requires : tie.Need-read-requires
-read-requires c κs = let p = here c in omega (arith, pan-length (p .value))
+read-pan-requires : tie.Need-read-pan-requires
+read-pan-requires c κs = let p = here c in omega (arith, pan-length (p .value))
 
 returns-2 : tie.Need-returns-2
 returns-2 c =
     let start = c .before .before .before .before in
     let allowed = sound-allowed (start .args .sheet .now) (c .before .before .before .shared-slice-known .given) (start .pre .0) in
-    ap Panned (c .read .ensures) ∙ sym (ap panAnswer (present-read panOf PanFits (λ a r f. pan-back a r (f .position)) (here (c .before)) (allowed .pan)))
+    ap Panned (c .read-pan .ensures) ∙ sym (ap panAnswer (present-read panOf PanFits (λ a r f. pan-back a r (f .position)) (here (c .before)) (allowed .pan)))
 
 pub sheet-pan-spec : {M : Type 1} → statement M
-sheet-pan-spec = tie.close (tie.spec returns add-body read-requires returns-2)
+sheet-pan-spec = tie.close (tie.spec returns add-body read-pan-requires returns-2)

@@ -4,7 +4,7 @@ use mathlib.Core.Path.{sym, ap, _∙_}
 use Prim.Native.Nat.{ℕ}
 use lib.ListN.{take}
 use Rattle.body_read.specs.Sides.{channelSamples}
-use Rattle.body_read.specs.Answers.{lengthsOf, streamSamples}
+use Rattle.body_read.specs.Answers.{sideLengthsOf, streamSamples}
 use Rattle.body_read.specs.declared.lengths.SideLengths.the-variants.{Lengths}
 use Rattle.body_read.proofs.ChannelLaws.{count-refused, channel-gives}
 use Rattle.body_read.proofs.SideLaws.{one-refused, one-gives}
@@ -26,7 +26,7 @@ returns c =
     let e = c .before in
     let a = e .before .before .before .before .args in
     let n = e .number .given .0 .0 in
-    sym (ap lengthsOf (one-refused (a .h) (a .c) (a .body .now) n (count-refused (channelSamples (a .h) (a .c) (a .body .now)) n (sym (e .before .before .channel-length .ensures) ∙ e .number .given .1))))
+    sym (ap sideLengthsOf (one-refused (a .h) (a .c) (a .body .now) n (count-refused (channelSamples (a .h) (a .c) (a .body .now)) n (sym (e .before .before .channel-length .ensures) ∙ e .number .given .1))))
 
 returns-2 : tie.Need-returns-2
 returns-2 c =
@@ -34,7 +34,7 @@ returns-2 c =
     let a = e .before .before .before .before .args in
     let n = e .n .given .0 .0 in
     let k = channel-gives (a .h) (a .c) (a .body .now) n (sym (e .before .before .channel-length .ensures) ∙ e .n .given .1) in
-    sym (ap lengthsOf (one-gives (a .h) (a .c) (a .body .now) (take n (streamSamples (a .c) (a .body .now))) (k .is)) ∙ ap (λ (l : ℕ). Lengths l 0) (k .long))
+    sym (ap sideLengthsOf (one-gives (a .h) (a .c) (a .body .now) (take n (streamSamples (a .c) (a .body .now))) (k .is)) ∙ ap (λ (l : ℕ). Lengths l 0) (k .long))
 
 pub one-length-spec : {M : Type 1} → statement M
 one-length-spec =

@@ -3,7 +3,7 @@
 use mathlib.Core.Path.{_≡_, sym, ap, _∙_}
 use Rattle.header.specs.Compression.{knownCompression}
 use Rattle.header.specs.declared.compression.KnownCompression.the-variants.{Known}
-use Rattle.body_read.specs.Answers.{lengthsOf}
+use Rattle.body_read.specs.Answers.{sideLengthsOf}
 use Rattle.body_read.proofs.SideLaws.{sides-unknown, sides-two, sides-one}
 use borrow.Author.Needs.{needs}
 use Rattle.body_read.proofs.lengths.side_lengths.Statement.{statement}
@@ -29,7 +29,7 @@ returns : tie.Need-returns
 returns c =
     let f = c .before .before in
     let a = f .before .before .before .before .before .args in
-    c .two-lengths .ensures ∙ sym (ap lengthsOf (sides-two (a .h) (a .stereo) (a .body .now) (f .before .c .given .0 .0) (found f) (c .before .if1 .taken)))
+    c .two-lengths .ensures ∙ sym (ap sideLengthsOf (sides-two (a .h) (a .stereo) (a .body .now) (f .before .c .given .0 .0) (found f) (c .before .if1 .taken)))
 
 one-length-requires : tie.Need-one-length-requires
 one-length-requires c κs = search needs
@@ -38,13 +38,13 @@ returns-2 : tie.Need-returns-2
 returns-2 c =
     let e = c .before in
     let a = e .before .before .before .before .args in
-    sym (ap lengthsOf (sides-unknown (a .h) (a .stereo) (a .body .now) (e .number .given .0 .0) (sym (e .before .before .compression .ensures) ∙ e .number .given .1)))
+    sym (ap sideLengthsOf (sides-unknown (a .h) (a .stereo) (a .body .now) (e .number .given .0 .0) (sym (e .before .before .compression .ensures) ∙ e .number .given .1)))
 
 returns-3 : tie.Need-returns-3
 returns-3 c =
     let f = c .before .before in
     let a = f .before .before .before .before .before .args in
-    c .one-length .ensures ∙ sym (ap lengthsOf (sides-one (a .h) (a .stereo) (a .body .now) (f .before .c .given .0 .0) (found f) (c .before .if1 .left)))
+    c .one-length .ensures ∙ sym (ap sideLengthsOf (sides-one (a .h) (a .stereo) (a .body .now) (f .before .c .given .0 .0) (found f) (c .before .if1 .left)))
 
 pub side-lengths-spec : {M : Type 1} → statement M
 side-lengths-spec =

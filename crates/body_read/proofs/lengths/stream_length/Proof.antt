@@ -4,7 +4,7 @@ use mathlib.Core.Path.{sym, ap, _∙_}
 use borrow.Author.Tests.{le-ltb}
 use lib.ListN.{length}
 use Rattle.header.specs.declared.compression.Compression.the-variants.{None, Fibonacci}
-use Rattle.body_read.specs.Answers.{countOf}
+use Rattle.body_read.specs.Answers.{sampleCountOf}
 use Rattle.body_read.proofs.ChannelLaws.{stream-refused, stream-count}
 use borrow.Author.Needs.{needs}
 use Rattle.body_read.proofs.lengths.stream_length.Statement.{statement}
@@ -19,7 +19,7 @@ enum-told-2 c = search needs
 returns : tie.Need-returns
 returns c =
     let a = c .before .before .before .args in
-    rw (c .before .enum-told2 .given .1) (sym (ap countOf (stream-refused (a .bytes .now) (c .if1 .taken))))
+    rw (c .before .enum-told2 .given .1) (sym (ap sampleCountOf (stream-refused (a .bytes .now) (c .if1 .taken))))
 
 mul-samples : tie.Need-mul-samples
 mul-samples c = search needs

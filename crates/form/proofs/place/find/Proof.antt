@@ -1,4 +1,4 @@
--- `form::find` meets its contract. The invariant: the first chunk of the name from here on is the whole FORM's.
+-- `form::find` meets its contract. The invariant: the first chunk of the name from here on lies where the whole FORM's does.
 -- Assumes nothing.
 use Prim.Native.Nat.{ℕ, _-_}
 use borrow.Author.Needs.{needs}
@@ -11,11 +11,11 @@ use Rattle.form.proofs.place.find.Statement.{statement}
 use Rattle.form.proofs.place.find.Tie as tie
 use Rattle.chunk.proofs.ChunkLaws.{Whole, at-chunk, at-end, at-refused}
 use Rattle.chunk.specs.Chunk.{itemsFrom}
-use Rattle.form.proofs.FormLaws.{first-hit, first-miss}
-use Rattle.form.specs.Find.{firstOf}
+use Rattle.form.proofs.FindLaws.{place-hit, place-miss}
+use Rattle.form.specs.Find.{placeFrom, firstPlace}
 
 abbrev Inv-loop : tie.InvT-loop
-Inv-loop form id at₀ at = firstOf id (itemsFrom form at) ≡ firstOf id (itemsFrom form 12)
+Inv-loop form id at₀ at = placeFrom at id (itemsFrom form at) ≡ firstPlace form id
 
 abbrev μ-loop : tie.MeasureT-loop
 μ-loop form id at₀ at = length form - at
@@ -38,27 +38,27 @@ enum-known-name : tie.Need-enum-known-name Inv-loop μ-loop
 enum-known-name c = search needs
 
 returns : tie.Need-returns Inv-loop μ-loop
-returns c = let w = whole (c .before .before) in record { is = sym (first-hit _ w (c .if1 .taken)) ∙ c .before .before .before .before .before .loop .inv; inside = w .inside }
+returns c = sym (place-hit _ (whole (c .before .before)) (c .if1 .taken)) ∙ c .before .before .before .before .before .loop .inv
 
 loop-less : tie.Need-loop-less Inv-loop μ-loop
 loop-less c = let w = whole (c .before .before) in omega arith
 
 loop-again : tie.Need-loop-again Inv-loop μ-loop
-loop-again c = sym (first-miss _ (whole (c .before .before)) (c .if1 .left)) ∙ c .before .before .before .before .before .loop .inv
+loop-again c = sym (place-miss _ (whole (c .before .before)) (c .if1 .left)) ∙ c .before .before .before .before .before .loop .inv
 
 enum-told : tie.Need-enum-told Inv-loop μ-loop
 enum-told c = search needs
 
 returns-2 : tie.Need-returns-2 Inv-loop μ-loop
-unfolding firstOf
-returns-2 c = let e = at-refused _ _ _ (sym (c .before .before .chunk-at .ensures) ∙ c .enum-told .given .1) in record { is = sym (ap (firstOf _) e) ∙ c .before .before .before .loop .inv; inside = tt }
+unfolding placeFrom
+returns-2 c = let e = at-refused _ _ _ (sym (c .before .before .chunk-at .ensures) ∙ c .enum-told .given .1) in sym (ap (placeFrom _ _) e) ∙ c .before .before .before .loop .inv
 
 enum-told-2 : tie.Need-enum-told-2 Inv-loop μ-loop
 enum-told-2 c = search needs
 
 returns-3 : tie.Need-returns-3 Inv-loop μ-loop
-unfolding firstOf
-returns-3 c = let e = at-end _ _ (sym (c .before .before .chunk-at .ensures) ∙ c .enum-told2 .given .1) in record { is = sym (ap (firstOf _) e) ∙ c .before .before .before .loop .inv; inside = tt }
+unfolding placeFrom
+returns-3 c = let e = at-end _ _ (sym (c .before .before .chunk-at .ensures) ∙ c .enum-told2 .given .1) in sym (ap (placeFrom _ _) e) ∙ c .before .before .before .loop .inv
 
 pub find-spec : {M : Type 1} → statement M
 find-spec =

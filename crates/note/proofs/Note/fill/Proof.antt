@@ -4,7 +4,7 @@ use mathlib.Core.List.{List}
 use mathlib.Core.Path.{_≡_, sym, ap, _∙_}
 use borrow.Author.Needs.{needs}
 use lib.ListN.{length}
-use Rattle.refusal.specs.Outcome.{Outcome}
+use Rattle.refusal.specs.Outcome.{Outcome, refuses}
 use Rattle.sheet.specs.Judge.{ifSound}
 use Rattle.sheet.specs.Read.{readSheet}
 use Rattle.sheet.specs.declared.judge.Judged.{Judged}
@@ -21,7 +21,7 @@ sound-block s =
 
 -- and what is left, by the verdict
 abbrev left-by : tie.Start → Judged → FillResult
-left-by s j = resultOf (ifSound j (sound-block s)) (s .args .self) (s .args .out .now)
+left-by s j = resultOf (ifSound j refuses (sound-block s)) (s .args .self) (s .args .out .now)
 
 judge-sheet-requires : tie.Need-judge-sheet-requires
 judge-sheet-requires c κs = search needs

@@ -25,8 +25,8 @@ long : (c : tie.In-loop Inv-loop μ-loop) → c .before .loop .at + 9 ≤ length
 long c = segment-long (S (c .before) .args .segments .now) (c .before .loop .inv .stands) (c .loop-test .taken)
 
 -- the segment that was read is the first of those ahead, and lies within the samples
-within : (c : tie.After-read Inv-loop μ-loop) → Ends (S (c .before .before) .args .p) (c .read .result)
-within c = ends (rest-here (c .before .before .loop .inv) (c .before .loop-test .taken) (c .read .result) (c .read .ensures))
+within : (c : tie.After-read-segment Inv-loop μ-loop) → Ends (S (c .before .before) .args .p) (c .read-segment .result)
+within c = ends (rest-here (c .before .before .loop .inv) (c .before .loop-test .taken) (c .read-segment .result) (c .read-segment .ensures))
 
 next-member-requires : tie.Need-next-member-requires Inv-loop μ-loop
 next-member-requires c κs = c .before .pre .1 .inside
@@ -39,8 +39,8 @@ loop-holds c =
 add-body : tie.Need-add-body Inv-loop μ-loop
 add-body c = omega arith
 
-read-requires : tie.Need-read-requires Inv-loop μ-loop
-read-requires c κs = omega (arith, long c)
+read-segment-requires : tie.Need-read-segment-requires Inv-loop μ-loop
+read-segment-requires c κs = omega (arith, long c)
 
 cast-begin : tie.Need-cast-begin Inv-loop μ-loop
 cast-begin c = omega arith
@@ -69,7 +69,7 @@ add-start c = omega (arith, within (c .before .before .before .before .before .b
 returns : tie.Need-returns Inv-loop μ-loop
 returns c =
     let r = c .before .before .before .before .before .before in
-    rest-found (r .before .before .loop .inv) (r .before .loop-test .taken) (r .read .result) (r .read .ensures) _ refl (c .before .if1 .taken)
+    rest-found (r .before .before .loop .inv) (r .before .loop-test .taken) (r .read-segment .result) (r .read-segment .ensures) _ refl (c .before .if1 .taken)
 
 next-member-requires-2 : tie.Need-next-member-requires-2 Inv-loop μ-loop
 next-member-requires-2 c κs = long (c .before .before .before .before .before .before)
@@ -82,7 +82,7 @@ loop-less c =
 loop-again : tie.Need-loop-again Inv-loop μ-loop
 loop-again c =
     let r = c .before .before .before .before .before .before in
-    rest-past (r .before .before .loop .inv) (r .before .loop-test .taken) (r .read .result) (r .read .ensures) _ refl _ (c .before .if1 .left) (c .next-member2 .ensures)
+    rest-past (r .before .before .loop .inv) (r .before .loop-test .taken) (r .read-segment .result) (r .read-segment .ensures) _ refl _ (c .before .if1 .left) (c .next-member2 .ensures)
 
 returns-2 : tie.Need-returns-2 Inv-loop μ-loop
 returns-2 c = rest-end (c .before .loop .inv) (c .before .before .before .before .pre .0) (c .loop-test .left)
@@ -96,7 +96,7 @@ next-run-spec =
     next-member-requires
     loop-holds
     add-body
-    read-requires
+    read-segment-requires
     cast-begin
     mul-begin
     cast-end

@@ -45,8 +45,8 @@ returns c =
 add-body : tie.Need-add-body Inv-loop μ-loop
 add-body c = omega (arith, long (c .before))
 
-read-requires : tie.Need-read-requires Inv-loop μ-loop
-read-requires c κs = omega (arith, long (c .before))
+read-segment-requires : tie.Need-read-segment-requires Inv-loop μ-loop
+read-segment-requires c κs = omega (arith, long (c .before))
 
 len-requires : tie.Need-len-requires Inv-loop μ-loop
 len-requires c κs = tt
@@ -83,8 +83,8 @@ loop-again c =
     let a = t .before .before .before .before .args in (
       stands-past (a .segments .now) (l .inv .0) (t .loop-test .taken) (c .next-member2 .ensures),
       omega (arith, c .before .capped .ensures),
-      sym (from-first (l .sum) _ (c .before .before .len .result) (l .left) (r .read .result) _ (omega (arith, r .before .if1 .left)) (c .before .before .len .ensures) (c .before .capped .ensures))
-          ∙ ap (λ (ss : List SeqnSegment). lengthFrom (l .sum) (l .left) ss) (sym (past-segments (a .segments .now) (l .inv .0) (t .loop-test .taken) (c .next-member2 .ensures) (r .read .result) (r .read .ensures)))
+      sym (from-first (l .sum) _ (c .before .before .len .result) (l .left) (r .read-segment .result) _ (omega (arith, r .before .if1 .left)) (c .before .before .len .ensures) (c .before .capped .ensures))
+          ∙ ap (λ (ss : List SeqnSegment). lengthFrom (l .sum) (l .left) ss) (sym (past-segments (a .segments .now) (l .inv .0) (t .loop-test .taken) (c .next-member2 .ensures) (r .read-segment .result) (r .read-segment .ensures)))
           ∙ l .inv .2,
     )
 
@@ -106,7 +106,7 @@ sequence-length-spec =
     loop-holds
     returns
     add-body
-    read-requires
+    read-segment-requires
     len-requires
     cast-capped
     add-capped

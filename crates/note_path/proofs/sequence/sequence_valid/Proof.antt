@@ -26,14 +26,14 @@ long : (c : tie.In-loop Inv-loop μ-loop) → c .before .loop .at + 9 ≤ length
 long c = segment-long (c .before .before .before .before .args .segments .now) (c .before .loop .inv .0) (c .loop-test .taken)
 
 -- the segment that was read and those from the next place on are valid exactly if all are
-turn : (c : tie.After-read Inv-loop μ-loop) (next : _) →
+turn : (c : tie.After-read-segment Inv-loop μ-loop) (next : _) →
     let l = c .before .before in
     let a = l .before .before .before .args in
-    next ≡ nextMember 8 (l .loop .at + 9) (a .segments .now) → allValid (c .read .result ∷ segmentsIn (drop next (a .segments .now))) (a .hi) ≡ allValid (segmentsIn (a .segments .now)) (a .hi)
+    next ≡ nextMember 8 (l .loop .at + 9) (a .segments .now) → allValid (c .read-segment .result ∷ segmentsIn (drop next (a .segments .now))) (a .hi) ≡ allValid (segmentsIn (a .segments .now)) (a .hi)
 turn c next e =
     let l = c .before .before in
     let a = l .before .before .before .args in
-    ap (λ (ss : List SeqnSegment). allValid ss (a .hi)) (sym (past-segments (a .segments .now) (l .loop .inv .0) (c .before .loop-test .taken) e (c .read .result) (c .read .ensures)))
+    ap (λ (ss : List SeqnSegment). allValid ss (a .hi)) (sym (past-segments (a .segments .now) (l .loop .inv .0) (c .before .loop-test .taken) e (c .read-segment .result) (c .read-segment .ensures)))
     ∙ l .loop .inv .1
 
 next-member-requires : tie.Need-next-member-requires Inv-loop μ-loop
@@ -47,8 +47,8 @@ loop-holds c =
 add-body : tie.Need-add-body Inv-loop μ-loop
 add-body c = omega (arith, long c)
 
-read-requires : tie.Need-read-requires Inv-loop μ-loop
-read-requires c κs = omega (arith, long c)
+read-segment-requires : tie.Need-read-segment-requires Inv-loop μ-loop
+read-segment-requires c κs = omega (arith, long c)
 
 validate-requires : tie.Need-validate-requires Inv-loop μ-loop
 validate-requires c κs = tt
@@ -101,7 +101,7 @@ sequence-valid-spec =
     next-member-requires
     loop-holds
     add-body
-    read-requires
+    read-segment-requires
     validate-requires
     enum-told
     returns

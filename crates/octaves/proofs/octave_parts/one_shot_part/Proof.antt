@@ -2,7 +2,7 @@
 -- Assumes nothing.
 use mathlib.Core.Path.{sym, ap, _∙_}
 use borrow.Author.Needs.{needs}
-use Rattle.octaves.specs.Octave.{before}
+use Rattle.octaves.specs.Octave.{partBefore}
 use Rattle.octaves.proofs.octave_parts.one_shot_part.Statement.{statement}
 use Rattle.octaves.proofs.octave_parts.one_shot_part.Tie as tie
 
@@ -16,10 +16,10 @@ enum-known-start : tie.Need-enum-known-start
 enum-known-start c = search needs
 
 returns : tie.Need-returns
-returns c = sym (ap before (sym (c .before .before .repeat-start .ensures) ∙ c .enum-told .given .1))
+returns c = sym (ap partBefore (sym (c .before .before .repeat-start .ensures) ∙ c .enum-told .given .1))
 
 returns-2 : tie.Need-returns-2
-returns-2 c = sym (ap before (sym (c .before .before .before .repeat-start .ensures) ∙ c .before .start .given .1))
+returns-2 c = sym (ap partBefore (sym (c .before .before .before .repeat-start .ensures) ∙ c .before .start .given .1))
 
 pub one-shot-part-spec : {M : Type 1} → statement M
 one-shot-part-spec =

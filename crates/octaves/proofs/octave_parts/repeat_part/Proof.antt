@@ -2,7 +2,7 @@
 -- Assumes nothing.
 use mathlib.Core.Path.{sym, ap, _∙_}
 use borrow.Author.Needs.{needs}
-use Rattle.octaves.specs.Octave.{from}
+use Rattle.octaves.specs.Octave.{partFrom}
 use Rattle.octaves.proofs.PartLaws.{start-within}
 use Rattle.octaves.proofs.octave_parts.repeat_part.Statement.{statement}
 use Rattle.octaves.proofs.octave_parts.repeat_part.Tie as tie
@@ -22,11 +22,11 @@ sub-length c =
     start-within (a .h) (a .n) (a .k) _ (sym (c .before .before .before .repeat-start .ensures) ∙ c .before .start .given .1)
 
 returns : tie.Need-returns
-returns c = sym (ap (λ x. from x (c .before .before .before .args .n)) (sym (c .before .before .repeat-start .ensures) ∙ c .enum-told .given .1))
+returns c = sym (ap (λ x. partFrom x (c .before .before .before .args .n)) (sym (c .before .before .repeat-start .ensures) ∙ c .enum-told .given .1))
 
 returns-2 : tie.Need-returns-2
 returns-2 c =
-    sym (ap (λ x. from x (c .before .before .before .before .args .n)) (sym (c .before .before .before .repeat-start .ensures) ∙ c .before .start .given .1))
+    sym (ap (λ x. partFrom x (c .before .before .before .before .args .n)) (sym (c .before .before .before .repeat-start .ensures) ∙ c .before .start .given .1))
 
 pub repeat-part-spec : {M : Type 1} → statement M
 repeat-part-spec =

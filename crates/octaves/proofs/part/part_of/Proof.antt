@@ -7,7 +7,7 @@ use native.Mathlib.Omega.{arith}
 use lib.ListN.{length, take, drop}
 use denote.Ref.{now}
 use borrow.Author.Needs.{needs}
-use Rattle.octaves.specs.Part.{Within}
+use Rattle.octaves.specs.Part.{LiesWithin}
 use Rattle.octaves.proofs.part.part_of.Statement.{statement}
 use Rattle.octaves.proofs.part.part_of.Tie as tie
 
@@ -22,7 +22,7 @@ enum-known-part c = search needs
 
 -- it ends within the slice
 inside : (c : tie.After-known-told) → c .before .part .given .0 .0 + c .before .part .given .0 .1 .0 ≤ length (now (c .before .before .before .args .samples))
-inside c = subst (λ p. Within p (length (now (c .before .before .before .args .samples)))) (c .before .part .given .1) (c .before .before .before .pre)
+inside c = subst (λ p. LiesWithin p (length (now (c .before .before .before .args .samples)))) (c .before .part .given .1) (c .before .before .before .pre)
 
 add-end : tie.Need-add-end
 add-end c = omega (arith, inside c)

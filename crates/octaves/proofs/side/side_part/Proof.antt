@@ -3,7 +3,9 @@
 use mathlib.Core.Path.{sym, ap, _∙_}
 use borrow.Author.Needs.{needs}
 use Rattle.sheet.specs.Read.{readSheet}
-use Rattle.octaves.specs.Side.{voiceSide, ifSound}
+use Rattle.sheet.specs.Judge.{ifSound}
+use Rattle.octaves.specs.Side.{voiceSide}
+use Rattle.octaves.specs.declared.part.Part.the-variants.{Absent}
 use Rattle.octaves.proofs.side.side_part.Statement.{statement}
 use Rattle.octaves.proofs.side.side_part.Tie as tie
 
@@ -22,13 +24,13 @@ sound-side-requires c κs = sym (c .before .before .judge-sheet .ensures) ∙ c 
 returns : tie.Need-returns
 returns c =
     let a = c .before .before .before .before .args in
-    sym (ap (λ j. ifSound j (voiceSide (readSheet (a .sheet .now)) (a .side) (a .places))) (sym (c .before .before .judge-sheet .ensures) ∙ c .enum-told .given .1))
+    sym (ap (λ j. ifSound j (λ number. Absent) (voiceSide (readSheet (a .sheet .now)) (a .side) (a .places))) (sym (c .before .before .judge-sheet .ensures) ∙ c .enum-told .given .1))
 
 returns-2 : tie.Need-returns-2
 returns-2 c =
     let a = c .before .before .before .before .before .args in
     c .sound-side .ensures
-    ∙ sym (ap (λ j. ifSound j (voiceSide (readSheet (a .sheet .now)) (a .side) (a .places))) (sym (c .before .before .before .judge-sheet .ensures) ∙ c .before .enum-told2 .given .1))
+    ∙ sym (ap (λ j. ifSound j (λ number. Absent) (voiceSide (readSheet (a .sheet .now)) (a .side) (a .places))) (sym (c .before .before .before .judge-sheet .ensures) ∙ c .before .enum-told2 .given .1))
 
 pub side-part-spec : {M : Type 1} → statement M
 side-part-spec =

@@ -14,10 +14,10 @@ use Rattle.sheet.proofs.judge.judge_sheet.Statement.{statement}
 use Rattle.sheet.proofs.judge.judge_sheet.Tie as tie
 use Rattle.sheet.specs.Judge.{judged}
 use Rattle.sheet.specs.Record.{records}
-use Rattle.sheet.specs.TextState.{textsOf}
+use Rattle.sheet.specs.TextState.{textStateOf}
 
 abbrev Inv-loop : tie.InvT-loop
-Inv-loop sheet group₀ texts₀ at₀ group texts at = judgedFrom group (textsOf texts) (records (drop at sheet)) ≡ judged sheet
+Inv-loop sheet group₀ texts₀ at₀ group texts at = judgedFrom group (textStateOf texts) (records (drop at sheet)) ≡ judged sheet
 
 abbrev μ-loop : tie.MeasureT-loop
 μ-loop sheet group₀ texts₀ at₀ group texts at = length sheet - at

@@ -11,17 +11,17 @@ use Rattle.sheet_read.proofs.part.put_channel.Tie as tie
 use Rattle.laws.proofs.PutLaws.{put-none}
 use Rattle.small_chunks.specs.Channel.{channelValueOf}
 use Rattle.chunk.specs.Chunk.{itemsFrom}
-use Rattle.form.specs.Find.{Found}
 use Rattle.form.specs.Names.{chan}
 use Rattle.form.specs.declared.place.Place.the-variants.{At}
+use Rattle.form.proofs.FindLaws.{Found, found}
 use Rattle.sheet.specs.Flat.{ifThere}
 use Rattle.sheet.specs.Read.{knownChannel}
 use Rattle.sheet_read.specs.Parts.{channelPart}
 use Rattle.sheet_read.proofs.PlaceLaws.{channel-at}
 
 -- where the chunk lies
-found : (c : tie.After-start) → let g = c .start .given .0 in Found (now (c .before .before .before .before .before .args .form)) chan (At (g .0) (g .1 .0))
-found c = rw (c .start .given .1) at (c .before .before .find .ensures)
+lies : (c : tie.After-start) → let g = c .start .given .0 in Found (now (c .before .before .before .before .before .args .form)) chan (At (g .0) (g .1 .0))
+lies c = rw (c .start .given .1) at (found _ _ _ (c .before .before .find .ensures))
 
 -- the part, by what is parsed
 part-is : (c : tie.After-parse) →
@@ -30,7 +30,7 @@ part-is c =
     let s = c .before .before .before in
     let g = s .start .given .0 in
     let e : g .0 + g .1 .0 - g .0 ≡ g .1 .0 = omega arith in
-    channel-at (found s) (s .before .before .before .before .before .pre .0) _ (rw e at (c .parse .ensures))
+    channel-at (lies s) (s .before .before .before .before .before .pre .0) _ (rw e at (c .parse .ensures))
 
 find-requires : tie.Need-find-requires
 find-requires c κs = search needs
@@ -42,7 +42,7 @@ enum-known-start : tie.Need-enum-known-start
 enum-known-start c = search needs
 
 add-end : tie.Need-add-end
-add-end c = let w = found (c .before) in omega (arith, w .inside)
+add-end c = let w = lies (c .before) in omega (arith, w .inside)
 
 sub-parse : tie.Need-sub-parse
 sub-parse c = search needs
@@ -51,7 +51,7 @@ part-parse-start : tie.Need-part-parse-start
 part-parse-start c = search needs
 
 part-parse-end : tie.Need-part-parse-end
-part-parse-end c = found (c .before) .inside
+part-parse-end c = lies (c .before) .inside
 
 parse-requires : tie.Need-parse-requires
 parse-requires c κs = search needs
@@ -66,7 +66,7 @@ put-channel-requires : tie.Need-put-channel-requires
 put-channel-requires c κs = search needs
 
 returns : tie.Need-returns
-returns c = rw (← rw (c .enum-told .given .1) at (c .before .before .find .ensures .is)) (put-none _ _)
+returns c = rw (← rw (c .enum-told .given .1) at (found _ _ _ (c .before .before .find .ensures) .is)) (put-none _ _)
 
 returns-2 : tie.Need-returns-2
 returns-2 c = rw (part-is (c .before .before), c .enum-told2 .given .1) (put-none _ _)

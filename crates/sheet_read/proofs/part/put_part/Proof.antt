@@ -8,16 +8,16 @@ use native.Mathlib.Omega.{arith}
 use Rattle.sheet_read.proofs.part.put_part.Statement.{statement}
 use Rattle.sheet_read.proofs.part.put_part.Tie as tie
 use Rattle.laws.proofs.PutLaws.{put-none}
-use Rattle.form.specs.Find.{Found}
 use Rattle.form.specs.declared.place.Place.the-variants.{At}
+use Rattle.form.proofs.FindLaws.{Found, found}
 use Rattle.sheet_read.proofs.PlaceLaws.{least-size, record-at}
 
 -- where the chunk lies
-found : (c : tie.After-start) → let g = c .start .given .0 in let a = c .before .before .before .before .before .args in Found (now (a .form)) (a .id) (At (g .0) (g .1 .0))
-found c = rw (c .start .given .1) at (c .before .before .find .ensures)
+lies : (c : tie.After-start) → let g = c .start .given .0 in let a = c .before .before .before .before .before .args in Found (now (a .form)) (a .id) (At (g .0) (g .1 .0))
+lies c = rw (c .start .given .1) at (found _ _ _ (c .before .before .find .ensures))
 
 enough : (c : tie.After-start) → c .before .before .before .before .before .args .n ≤ c .start .given .0 .1 .0
-enough c = let pre = c .before .before .before .before .before .pre in omega (arith, least-size (found c) (pre .0), pre .1)
+enough c = let pre = c .before .before .before .before .before .pre in omega (arith, least-size (lies c) (pre .0), pre .1)
 
 find-requires : tie.Need-find-requires
 find-requires c κs = search needs
@@ -29,7 +29,7 @@ enum-known-start : tie.Need-enum-known-start
 enum-known-start c = search needs
 
 add-end : tie.Need-add-end
-add-end c = let w = found (c .before) in omega (arith, enough (c .before), w .inside)
+add-end c = let w = lies (c .before) in omega (arith, enough (c .before), w .inside)
 
 sub-put-record : tie.Need-sub-put-record
 sub-put-record c = search needs
@@ -38,13 +38,13 @@ part-put-record-start : tie.Need-part-put-record-start
 part-put-record-start c = search needs
 
 part-put-record-end : tie.Need-part-put-record-end
-part-put-record-end c = let w = found (c .before) in omega (arith, enough (c .before), w .inside)
+part-put-record-end c = let w = lies (c .before) in omega (arith, enough (c .before), w .inside)
 
 put-record-requires : tie.Need-put-record-requires
 put-record-requires c κs = search needs
 
 returns : tie.Need-returns
-returns c = rw (← rw (c .enum-told .given .1) at (c .before .before .find .ensures .is)) (put-none _ _)
+returns c = rw (← rw (c .enum-told .given .1) at (found _ _ _ (c .before .before .find .ensures) .is)) (put-none _ _)
 
 same-length : tie.Need-same-length
 same-length c = search needs
@@ -55,7 +55,7 @@ returns-2 c =
     let g = s .start .given .0 in
     let n = s .before .before .before .before .before .args .n in
     let e : g .0 + n - g .0 ≡ n = omega arith in
-    rw (record-at (found s) _ n (enough s)) (rw e at (c .before .before .put-record .ensures))
+    rw (record-at (lies s) _ n (enough s)) (rw e at (c .before .before .put-record .ensures))
 
 pub put-part-spec : {M : Type 1} → statement M
 put-part-spec =

@@ -12,25 +12,25 @@ use Rattle.sheet_read.proofs.part.put_sequence.Tie as tie
 use Rattle.laws.proofs.PutLaws.{put-none}
 use Rattle.field.specs.Tagged.{tagged}
 use Rattle.chunk.specs.Chunk.{itemsFrom}
-use Rattle.form.specs.Find.{Found}
 use Rattle.form.specs.Names.{seqn}
 use Rattle.form.specs.declared.place.Place.the-variants.{At}
-use Rattle.sheet_read.specs.Parts.{sequencePart}
+use Rattle.form.proofs.FindLaws.{Found, found}
+use Rattle.sheet_read.specs.Parts.{segmentsPart}
 use Rattle.sheet_read.proofs.PlaceLaws.{sequence-at}
 
 -- where the chunk lies
-found : (c : tie.After-start) → let g = c .start .given .0 in Found (now (c .before .before .before .before .before .args .form)) seqn (At (g .0) (g .1 .0))
-found c = rw (c .start .given .1) at (c .before .before .find .ensures)
+lies : (c : tie.After-start) → let g = c .start .given .0 in Found (now (c .before .before .before .before .before .args .form)) seqn (At (g .0) (g .1 .0))
+lies c = rw (c .start .given .1) at (found _ _ _ (c .before .before .find .ensures))
 
 -- the part, its payload as the code has it
 part-is : (c : tie.After-start) →
     let g = c .start .given .0 in
     let f = now (c .before .before .before .before .before .args .form) in
-    sequencePart (itemsFrom f 12) ≡ 7 ∷ tagged 8 8 (take (g .0 + g .1 .0 - g .0) (drop (g .0) f))
+    segmentsPart (itemsFrom f 12) ≡ 7 ∷ tagged 8 8 (take (g .0 + g .1 .0 - g .0) (drop (g .0) f))
 part-is c =
     let g = c .start .given .0 in
     let e : g .0 + g .1 .0 - g .0 ≡ g .1 .0 = omega arith in
-    rw e (sequence-at (found c) (λ i. c .before .before .before .before .shared-slice-known .given i .fits))
+    rw e (sequence-at (lies c) (λ i. c .before .before .before .before .shared-slice-known .given i .fits))
 
 find-requires : tie.Need-find-requires
 find-requires c κs = search needs
@@ -42,7 +42,7 @@ enum-known-start : tie.Need-enum-known-start
 enum-known-start c = search needs
 
 add-end : tie.Need-add-end
-add-end c = let w = found (c .before) in omega (arith, w .inside)
+add-end c = let w = lies (c .before) in omega (arith, w .inside)
 
 sub-put-group : tie.Need-sub-put-group
 sub-put-group c = search needs
@@ -51,13 +51,13 @@ part-put-group-start : tie.Need-part-put-group-start
 part-put-group-start c = search needs
 
 part-put-group-end : tie.Need-part-put-group-end
-part-put-group-end c = found (c .before) .inside
+part-put-group-end c = lies (c .before) .inside
 
 put-group-requires : tie.Need-put-group-requires
 put-group-requires c κs = (omega arith, omega (arith, ap length (part-is (c .before .before .before)), c .before .before .before .before .before .before .before .before .pre))
 
 returns : tie.Need-returns
-returns c = rw (← rw (c .enum-told .given .1) at (c .before .before .find .ensures .is)) (put-none _ _)
+returns c = rw (← rw (c .enum-told .given .1) at (found _ _ _ (c .before .before .find .ensures) .is)) (put-none _ _)
 
 same-length : tie.Need-same-length
 same-length c = search needs

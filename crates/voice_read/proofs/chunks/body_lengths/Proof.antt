@@ -9,7 +9,7 @@ use Rattle.form.specs.Names.{body}
 use Rattle.sheet_read.specs.FormVoice.{formVoice}
 use Rattle.sheet.specs.Read.{bodyOf}
 use Rattle.sheet.specs.Voice.{isStereo}
-use Rattle.body_read.specs.Answers.{lengthsOf}
+use Rattle.body_read.specs.Answers.{sideLengthsOf}
 use Rattle.body_read.specs.Sides.{bodySides}
 use Rattle.voice_read.proofs.AnswerLaws.{needed-refused, needed-gives}
 use Rattle.voice_read.proofs.chunks.body_lengths.Statement.{statement}
@@ -17,7 +17,7 @@ use Rattle.voice_read.proofs.chunks.body_lengths.Tie as tie
 
 -- the sides, by what was read of the FORM
 sides-are : (c : tie.After-side-lengths) → let f = now (c .before .before .before .before .before .args .form) in
-    c .side-lengths .result ≡ lengthsOf (bodySides (formVoice (itemsFrom f 12) .header) (isStereo (formVoice (itemsFrom f 12) .channel)) (bodyOf (firstOf body (itemsFrom f 12))))
+    c .side-lengths .result ≡ sideLengthsOf (bodySides (formVoice (itemsFrom f 12) .header) (isStereo (formVoice (itemsFrom f 12) .channel)) (bodyOf (firstOf body (itemsFrom f 12))))
 sides-are c =
     rw (← c .before .before .before .header-of .ensures, ← c .before .before .is-stereo .ensures, ← c .before .body-of .ensures) (c .side-lengths .ensures)
 

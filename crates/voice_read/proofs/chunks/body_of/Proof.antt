@@ -5,16 +5,16 @@ use borrow.Author.Needs.{needs}
 use denote.Ref.{now}
 use mathlib.Core.Path.{_≡_, ap}
 use native.Mathlib.Omega.{arith}
-use Rattle.form.specs.Find.{Found}
 use Rattle.form.specs.Names.{body}
 use Rattle.form.specs.declared.place.Place.the-variants.{At}
+use Rattle.form.proofs.FindLaws.{Found, found}
 use Rattle.sheet.specs.Read.{bodyOf}
 use Rattle.voice_read.proofs.chunks.body_of.Statement.{statement}
 use Rattle.voice_read.proofs.chunks.body_of.Tie as tie
 
 -- where the chunk lies
-found : (c : tie.After-known-told) → let g = c .before .start .given .0 in Found (now (c .before .before .before .before .before .args .form)) body (At (g .0) (g .1 .0))
-found c = rw (c .before .start .given .1) at (c .before .before .before .find .ensures)
+lies : (c : tie.After-known-told) → let g = c .before .start .given .0 in Found (now (c .before .before .before .before .before .args .form)) body (At (g .0) (g .1 .0))
+lies c = rw (c .before .start .given .1) at (found _ _ _ (c .before .before .before .find .ensures))
 
 find-requires : tie.Need-find-requires
 find-requires c κs = search needs
@@ -29,7 +29,7 @@ enum-known-start : tie.Need-enum-known-start
 enum-known-start c = search needs
 
 add-end : tie.Need-add-end
-add-end c = let w = found c in omega (arith, w .inside)
+add-end c = let w = lies c in omega (arith, w .inside)
 
 sub-result : tie.Need-sub-result
 sub-result c = search needs
@@ -38,16 +38,16 @@ part-result-start : tie.Need-part-result-start
 part-result-start c = search needs
 
 part-result-end : tie.Need-part-result-end
-part-result-end c = found c .inside
+part-result-end c = lies c .inside
 
 returns : tie.Need-returns
-returns c = ap bodyOf (rw (c .before .enum-told .given .1) at (c .before .before .before .find .ensures .is))
+returns c = ap bodyOf (rw (c .before .enum-told .given .1) at (found _ _ _ (c .before .before .before .find .ensures) .is))
 
 returns-2 : tie.Need-returns-2
 returns-2 c =
     let g = c .before .before .start .given .0 in
     let e : g .0 + g .1 .0 - g .0 ≡ g .1 .0 = omega arith in
-    rw e (ap bodyOf (found (c .before) .is))
+    rw e (ap bodyOf (lies (c .before) .is))
 
 pub body-of-spec : {M : Type 1} → statement M
 body-of-spec =

@@ -9,7 +9,7 @@ use Rattle.chunk.specs.Chunk.{itemsFrom}
 use Rattle.form.specs.Find.{firstOf}
 use Rattle.form.specs.FirstBad.{firstBad}
 use Rattle.form.specs.Names.{vhdr}
-use Rattle.sheet_read.specs.FormVoice.{isThere}
+use Rattle.sheet_read.specs.FormVoice.{isSome}
 use Rattle.voice_read.specs.Parsed.{neededBy}
 use Rattle.voice_read.specs.declared.chunks.Parsed.the-variants.{Refused}
 use Rattle.voice_read.proofs.ReadLaws.{items-bad, items-headless, items-bodiless, items-whole}
@@ -21,7 +21,7 @@ sound : (c : tie.Else1) → firstBad (itemsFrom (now (c .before .before .before 
 sound c = sym (c .before .first-bad .ensures) ∙ c .if1 .left
 
 -- there is a VHDR
-header : (c : tie.Else2) → isThere (firstOf vhdr (itemsFrom (now (c .before .before .before .before .before .args .form)) 12)) ≡ true
+header : (c : tie.Else2) → isSome (firstOf vhdr (itemsFrom (now (c .before .before .before .before .before .args .form)) 12)) ≡ true
 header c = not-false _ (sym (c .before .is-missing .ensures) ∙ c .if2 .left)
 
 first-bad-requires : tie.Need-first-bad-requires

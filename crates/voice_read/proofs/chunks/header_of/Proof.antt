@@ -4,16 +4,16 @@ use borrow.Author.Needs.{needs}
 use denote.Ref.{now}
 use mathlib.Core.Path.{_∙_}
 use native.Mathlib.Omega.{arith}
-use Rattle.form.specs.Find.{Found}
 use Rattle.form.specs.Names.{vhdr}
 use Rattle.form.specs.declared.place.Place.the-variants.{At}
+use Rattle.form.proofs.FindLaws.{Found, found}
 use Rattle.voice_read.proofs.VoiceLaws.{header-long, header-at, header-there}
 use Rattle.voice_read.proofs.chunks.header_of.Statement.{statement}
 use Rattle.voice_read.proofs.chunks.header_of.Tie as tie
 
 -- where the chunk lies
-found : (c : tie.After-known-told) → let g = c .before .start .given .0 in Found (now (c .before .before .before .before .before .args .form)) vhdr (At (g .0) (g .1 .0))
-found c = rw (c .before .start .given .1) at (c .before .before .before .find .ensures)
+lies : (c : tie.After-known-told) → let g = c .before .start .given .0 in Found (now (c .before .before .before .before .before .args .form)) vhdr (At (g .0) (g .1 .0))
+lies c = rw (c .before .start .given .1) at (found _ _ _ (c .before .before .before .find .ensures))
 
 find-requires : tie.Need-find-requires
 find-requires c κs = search needs
@@ -21,19 +21,19 @@ find-requires c κs = search needs
 enum-known-start : tie.Need-enum-known-start
 enum-known-start c = search needs
 
-read-requires : tie.Need-read-requires
-read-requires c κs =
-    let w = found c in
+read-header-requires : tie.Need-read-header-requires
+read-header-requires c κs =
+    let w = lies c in
     omega (arith, w .inside, header-long w (c .before .before .before .before .before .pre .sound))
 
 enum-told : tie.Need-enum-told
 enum-told c = search needs
 
 returns : tie.Need-returns
-returns c = c .read .ensures ∙ header-at (found (c .before)) (c .before .before .before .before .before .before .pre .sound)
+returns c = c .read-header .ensures ∙ header-at (lies (c .before)) (c .before .before .before .before .before .before .pre .sound)
 
 returns-2 : tie.Need-returns-2
-returns-2 c = absurd (header-there (rw (c .enum-told .given .1) at (c .before .before .find .ensures)) (c .before .before .before .before .pre))
+returns-2 c = absurd (header-there (rw (c .enum-told .given .1) at (found _ _ _ (c .before .before .find .ensures))) (c .before .before .before .before .pre))
 
 pub header-of-spec : {M : Type 1} → statement M
-header-of-spec = tie.close (tie.spec find-requires enum-known-start read-requires enum-told returns returns-2)
+header-of-spec = tie.close (tie.spec find-requires enum-known-start read-header-requires enum-told returns returns-2)

@@ -5,16 +5,16 @@ use denote.Ref.{now}
 use lib.Dec.{eqb}
 use mathlib.Core.Path.{ap, _∙_}
 use native.Mathlib.Omega.{arith}
-use Rattle.form.specs.Find.{Found}
 use Rattle.form.specs.Names.{chan}
 use Rattle.form.specs.declared.place.Place.the-variants.{At}
+use Rattle.form.proofs.FindLaws.{Found, found}
 use Rattle.voice_read.proofs.VoiceLaws.{channel-long, stereo-at, stereo-none}
 use Rattle.voice_read.proofs.chunks.is_stereo.Statement.{statement}
 use Rattle.voice_read.proofs.chunks.is_stereo.Tie as tie
 
 -- where the chunk lies
-found : (c : tie.After-known-told) → let g = c .before .start .given .0 in Found (now (c .before .before .before .before .before .args .form)) chan (At (g .0) (g .1 .0))
-found c = rw (c .before .start .given .1) at (c .before .before .before .find .ensures)
+lies : (c : tie.After-known-told) → let g = c .before .start .given .0 in Found (now (c .before .before .before .before .before .args .form)) chan (At (g .0) (g .1 .0))
+lies c = rw (c .before .start .given .1) at (found _ _ _ (c .before .before .before .find .ensures))
 
 find-requires : tie.Need-find-requires
 find-requires c κs = search needs
@@ -27,14 +27,14 @@ enum-known-start c = search needs
 
 read32-requires : tie.Need-read32-requires
 read32-requires c κs =
-    let w = found c in
+    let w = lies c in
     omega (arith, w .inside, channel-long w (c .before .before .before .before .before .pre))
 
 returns : tie.Need-returns
-returns c = stereo-none (rw (c .enum-told .given .1) at (c .before .before .find .ensures))
+returns c = stereo-none (rw (c .enum-told .given .1) at (found _ _ _ (c .before .before .find .ensures)))
 
 returns-2 : tie.Need-returns-2
-returns-2 c = ap (λ v. eqb v 6) (c .read32 .ensures) ∙ stereo-at (found (c .before)) (c .before .before .before .before .before .before .pre)
+returns-2 c = ap (λ v. eqb v 6) (c .read32 .ensures) ∙ stereo-at (lies (c .before)) (c .before .before .before .before .before .before .pre)
 
 pub is-stereo-spec : {M : Type 1} → statement M
 is-stereo-spec = tie.close (tie.spec find-requires enum-told enum-known-start read32-requires returns returns-2)

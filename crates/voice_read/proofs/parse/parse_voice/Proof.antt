@@ -49,7 +49,7 @@ write-outputs-requires c κs =
     let e = d .before in
     let k = e .before .before .before .before .before .before in
     let a = k .before .before .before .before .before .before .args in
-    outputs-room (now (a .file)) (k .before .l .given .0 .0) (measured k) (now (d .form .result)) (d .form .ensures .0) (d .form .ensures .1) (length (now (a .sheet))) (length (now (a .left))) (length (now (a .right)))
+    outputs-room (now (a .file)) (k .before .l .given .0 .0) (measured k) (now (d .form .result)) (d .form .ensures .0) (d .form .ensures .1 .0) (length (now (a .sheet))) (length (now (a .left))) (length (now (a .right)))
     (e .before .before .before .before .if1 .left) (e .before .before .if2 .left) (e .if3 .left)
 
 returns-4 : tie.Need-returns-4

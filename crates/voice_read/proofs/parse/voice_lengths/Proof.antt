@@ -20,7 +20,7 @@ form-requires : tie.Need-form-requires
 form-requires c κs = search needs
 
 form-lengths-requires : tie.Need-form-lengths-requires
-form-lengths-requires c κs = c .form .ensures .1
+form-lengths-requires c κs = c .form .ensures .1 .0
 
 returns-2 : tie.Need-returns-2
 returns-2 c =

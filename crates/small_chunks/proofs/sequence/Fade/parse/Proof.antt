@@ -1,4 +1,4 @@
--- `Fade::parse` meets its contract: a short chunk by the test, another by the contract of `read`.
+-- `Fade::parse` meets its contract: a short chunk by the test, another by the contract of `read_fade`.
 -- Assumes nothing.
 use Prim.Native.Nat.{_≤_, _<_}
 use native.Mathlib.Omega.{arith}
@@ -14,13 +14,13 @@ returns c =
     let short : length (now (c .before .before .args .body)) < 4 = omega arith in
     simp (lt-ltb _ _ short)
 
-read-requires : tie.Need-read-requires
-read-requires c κs = search needs
+read-fade-requires : tie.Need-read-fade-requires
+read-fade-requires c κs = search needs
 
 returns-2 : tie.Need-returns-2
 returns-2 c =
     let long : 4 ≤ length (now (c .before .before .before .args .body)) = omega arith in
-    simp (le-ltb _ _ long, c .read .ensures)
+    simp (le-ltb _ _ long, c .read-fade .ensures)
 
 pub parse-spec : {M : Type 1} → statement M
-parse-spec = tie.close (tie.spec returns read-requires returns-2)
+parse-spec = tie.close (tie.spec returns read-fade-requires returns-2)

@@ -1,10 +1,10 @@
--- `header::VoiceHeader::read` meets its contract: a field of the bytes from a place on is read that much further on.
+-- `header::read_header` meets its contract: a field of the bytes from a place on is read that much further on.
 -- Assumes nothing.
 use lib.Seq.{getD-drop, drop-drop}
 use Rattle.header.specs.Header.{headerOf}
 use borrow.Author.Needs.{needs}
-use Rattle.header.proofs.voice_header.VoiceHeader.read.Statement.{statement}
-use Rattle.header.proofs.voice_header.VoiceHeader.read.Tie as tie
+use Rattle.header.proofs.voice_header.read_header.Statement.{statement}
+use Rattle.header.proofs.voice_header.read_header.Tie as tie
 
 add-repeat : tie.Need-add-repeat
 add-repeat c = search needs
@@ -49,8 +49,8 @@ returns : tie.Need-returns
 unfolding headerOf
 returns c = simp (drop-drop, getD-drop) (cc)
 
-pub read-spec : {M : Type 1} → statement M
-read-spec =
+pub read-header-spec : {M : Type 1} → statement M
+read-header-spec =
     tie.close
     (tie.spec
     add-repeat
