@@ -28,7 +28,7 @@ use Rattle.body_read.specs.Sides.{Sides, lengthsSuit}
 use Rattle.voice_read.specs.ReadVoice.{Reading, readVoice}
 use Rattle.voice_write.specs.WriteVoice.{contents, fileOf, writeVoice, writeSheet}
 use Rattle.voice_round_trip.proofs.Theorem.{round-trip}
-use Rattle.demands.specs.Demand2.{TidyTexts, FlatForm, exampleFile, exampleVoice, exampleSides, Demand2}
+use Rattle.demands.specs.Demand2.{TidyTexts, exampleFile, exampleVoice, exampleSides, Demand2}
 use Rattle.demands.proofs.Accepted.{read-sound, read-samples}
 
 -- a sheet that is written was accepted
@@ -45,9 +45,6 @@ sheet-back : (sheet : List ℕ) (s : Sides) (file : List ℕ) → Bytes sheet �
 sheet-back sheet s file b k d left right w =
     let sound = written-sound sheet s file w in
     (record { voice = readSheet sheet; sides = s }, round-trip (readSheet sheet) s file (allowed-read sheet b (sound .0)) k d left right (sound .1), flat-read sheet b (sound .0), refl)
-
-flat-form : (sheet : List ℕ) → Bytes sheet → judged sheet ≡ judged.Sound → FlatForm sheet
-flat-form sheet b j = record { voice = readSheet sheet; allowed = allowed-read sheet b j; is = flat-read sheet b j }
 
 -- ---- the example
 
@@ -84,7 +81,7 @@ demand2 = record {
   accepted = read-sound;
   samples = read-samples;
   flat-sound = judged-flat;
-  sound-flat = flat-form;
+  sound-flat = λ sheet b j. (allowed-read sheet b j, flat-read sheet b j);
   fibonacci-survives = survives;
   example-read = round-trip exampleVoice exampleSides exampleFile example-allowed raw tt one-sample no-sample example-file;
   example-written = example-file;

@@ -24,40 +24,41 @@ use Rattle.sheet.specs.declared.judge.Judged.{Judged}
 use Rattle.sheet.specs.declared.judge.Judged.the-variants as judged
 use Rattle.body_read.specs.Sides.{Sides}
 use Rattle.note_frame.specs.declared.chain.Frame.{Frame}
-use Rattle.note_rules.specs.Rules.{Rule, Holds, NoneHolds, keyUpAhead, fillRules}
-use Rattle.note_rules.specs.declared.state.Request.{Request}
+use Rattle.refusal.specs.Rules.{Rule, Holds, NoneHolds, numbersOf}
+use Rattle.note_rules.specs.Rules.{keyUpAhead, fillRules}
+use Rattle.note_frame.specs.declared.playing.Playing.{Playing}
 use Rattle.note_rules.proofs.RuleLaws.{rules-are, not-ahead, never-ahead}
-use Rattle.note.specs.Fill.{fillVoice, fillSheet, answerOf}
+use Rattle.note.specs.Fill.{fillVoice, fillSheet}
 use Rattle.note.proofs.FillLaws.{rulesOf, rule-holds, no-rule}
 use Rattle.voice_read.specs.ReadVoice.{Reading, readVoice}
-use Rattle.demands.specs.Demand1.{Among, fillNumbers}
+use Rattle.demands.specs.Demand1.{Among, fillNumbers, sheetNumbers}
 use Rattle.demands.specs.Demand2.{Acceptable}
 use Rattle.demands.specs.Demand3.{readVoiceNumbers, RefusedAmong}
-use Rattle.demands.specs.Reckoning.{Call, fill, keyUp, Started, State, atFirst, setBy, fillOf, grown, reckonFrom}
+use Rattle.demands.specs.Reckoning.{Call, fill, keyUp, Started, State, playing, atFirst, setBy, fillAt, answerTo, grown, reckonFrom}
 use Rattle.demands.proofs.NumberLaws.{isOneOf, one-of, Within}
-use Rattle.demands.proofs.WriteNumbers.{if-sound-within}
+use Rattle.demands.proofs.WriteNumbers.{if-sound-within, sheet-number}
 use Rattle.demands.proofs.Accepted.{read-sound}
 use Rattle.demands.proofs.Played.{Behind, behind-key-up, behind-fill}
 
 -- ---- a fill of a sheet
 
-pub by-a-rule : (sheet : List ℕ) (s : Sides) (r : Request) (n : ℕ) → fillSheet sheet s r ≡ refuses n
-    → (judged sheet ≡ judged.Refused n) ⊎ ((judged sheet ≡ judged.Sound) × Holds n (fillRules (readSheet sheet) (length (s .left)) (length (s .right)) r))
-by-a-rule sheet s r n = go (judged sheet) refl
+pub by-a-rule : (sheet : List ℕ) (s : Sides) (p : Playing) (frames places n : ℕ) → fillSheet sheet s p frames places ≡ refuses n
+    → (judged sheet ≡ judged.Refused n) ⊎ ((judged sheet ≡ judged.Sound) × Holds n (fillRules (readSheet sheet) (length (s .left)) (length (s .right)) p frames places))
+by-a-rule sheet s p frames places n = go (judged sheet) refl
   where
-    go : (j : Judged) → judged sheet ≡ j → ifSound j refuses (fillVoice (readSheet sheet) s r) ≡ refuses n
-        → (judged sheet ≡ judged.Refused n) ⊎ ((judged sheet ≡ judged.Sound) × Holds n (rulesOf (readSheet sheet) s r))
-    go judged.Sound p e = inr (p, rule-holds (readSheet sheet) s r n e)
-    go (judged.Refused k) p e = let same : k ≡ n = cc in inl (rw (← same) p)
+    go : (j : Judged) → judged sheet ≡ j → ifSound j refuses (fillVoice (readSheet sheet) s p frames places) ≡ refuses n
+        → (judged sheet ≡ judged.Refused n) ⊎ ((judged sheet ≡ judged.Sound) × Holds n (rulesOf (readSheet sheet) s p frames places))
+    go judged.Sound is e = inr (is, rule-holds (readSheet sheet) s p frames places n e)
+    go (judged.Refused k) is e = let same : k ≡ n = cc in inl (rw (← same) is)
 
-pub by-none : (sheet : List ℕ) (s : Sides) (r : Request) (block : List Frame) → fillSheet sheet s r ≡ gives block
-    → (judged sheet ≡ judged.Sound) × NoneHolds (fillRules (readSheet sheet) (length (s .left)) (length (s .right)) r)
-by-none sheet s r block = go (judged sheet) refl
+pub by-none : (sheet : List ℕ) (s : Sides) (p : Playing) (frames places : ℕ) (block : List Frame) → fillSheet sheet s p frames places ≡ gives block
+    → (judged sheet ≡ judged.Sound) × NoneHolds (fillRules (readSheet sheet) (length (s .left)) (length (s .right)) p frames places)
+by-none sheet s p frames places block = go (judged sheet) refl
   where
-    go : (j : Judged) → judged sheet ≡ j → ifSound j refuses (fillVoice (readSheet sheet) s r) ≡ gives block
-        → (judged sheet ≡ judged.Sound) × NoneHolds (rulesOf (readSheet sheet) s r)
-    go judged.Sound p e = (p, no-rule (readSheet sheet) s r block e)
-    go (judged.Refused k) p e = impossible cc
+    go : (j : Judged) → judged sheet ≡ j → ifSound j refuses (fillVoice (readSheet sheet) s p frames places) ≡ gives block
+        → (judged sheet ≡ judged.Sound) × NoneHolds (rulesOf (readSheet sheet) s p frames places)
+    go judged.Sound is e = (is, no-rule (readSheet sheet) s p frames places block e)
+    go (judged.Refused k) is e = impossible cc
 
 -- ---- the numbers
 
@@ -78,18 +79,28 @@ holding-among numbers (r ∷ rs) none n h = go (isOneOf numbers (r .number)) ref
     go false t none (inl w) later = impossible cc
     go false t none (inr h) later = later (none .1) h
 
-voice-within : (numbers : List ℕ) (v : Voice) (s : Sides) (r : Request) → NoneHolds (others numbers (rulesOf v s r)) → Within numbers (fillVoice v s r)
-voice-within numbers v s r none = go (fillVoice v s r) refl
+voice-within : (numbers : List ℕ) (v : Voice) (s : Sides) (p : Playing) (frames places : ℕ) → NoneHolds (others numbers (rulesOf v s p frames places)) → Within numbers (fillVoice v s p frames places)
+voice-within numbers v s p frames places none = go (fillVoice v s p frames places) refl
   where
-    go : (o : Outcome (List Frame)) → fillVoice v s r ≡ o → Within numbers o
+    go : (o : Outcome (List Frame)) → fillVoice v s p frames places ≡ o → Within numbers o
     go (gives block) e = tt
-    go (refuses n) e = holding-among numbers (rulesOf v s r) none n (rule-holds v s r n e)
+    go (refuses n) e = holding-among numbers (rulesOf v s p frames places) none n (rule-holds v s p frames places n e)
 
 -- any fill: every rule has one of the numbers
-pub fill-within : (sheet : List ℕ) (s : Sides) (r : Request) → Within fillNumbers (fillSheet sheet s r)
-fill-within sheet s r =
+pub fill-within : (sheet : List ℕ) (s : Sides) (p : Playing) (frames places : ℕ) → Within fillNumbers (fillSheet sheet s p frames places)
+fill-within sheet s p frames places =
     let v = readSheet sheet in
-    if-sound-within fillNumbers tt sheet (fillVoice v s r) (voice-within fillNumbers v s r (rw (rules-are v (length (s .left)) (length (s .right)) r) tt))
+    let rules = rules-are v (length (s .left)) (length (s .right)) p frames places in
+    if-sound-within fillNumbers tt sheet (fillVoice v s p frames places) (voice-within fillNumbers v s p frames places (rw rules tt))
+
+-- a refused sheet turns a fill back by its own number
+pub sheet-first : (sheet : List ℕ) (s : Sides) (p : Playing) (frames places n : ℕ) → judged sheet ≡ judged.Refused n → (fillSheet sheet s p frames places ≡ refuses n) × Among n sheetNumbers
+sheet-first sheet s p frames places n e = (ap (λ j. ifSound j refuses (fillVoice (readSheet sheet) s p frames places)) e, sheet-number sheet n e)
+
+-- the order
+pub order : (v : Voice) (left right : ℕ) (p : Playing) (frames places : ℕ)
+    → numbersOf (fillRules v left right p frames places) ≡ 10 ∷ 13 ∷ 18 ∷ 21 ∷ 22 ∷ 23 ∷ 24 ∷ 25 ∷ 31 ∷ 32 ∷ 33 ∷ 34 ∷ []
+order v left right p frames places = rw (rules-are v left right p frames places) refl
 
 -- ---- a read voice
 
@@ -100,25 +111,27 @@ known-byte zero c e = refl
 known-byte (suc zero) c e = refl
 known-byte (suc (suc n)) c e = impossible cc
 
-answer-among : (numbers : List ℕ) (o : Outcome (List Frame)) → Within numbers o → RefusedAmong numbers (answerOf o)
+answer-among : (numbers : List ℕ) (o : Outcome (List Frame)) → Within numbers o → RefusedAmong numbers (answerTo o)
 answer-among numbers (gives block) w = tt
 answer-among numbers (refuses n) w = w
 
 module _ (r : Reading) (s : Started) (sound : Acceptable r) where
-  read-fill : (state : State) (places : ℕ) → Behind state → Within readVoiceNumbers (fillOf r s state places)
+  read-fill : (state : State) (places : ℕ) → Behind state → Within readVoiceNumbers (fillAt r s state places)
   read-fill state places behind =
       let h = r .voice .header in
       let key : keyUpAhead (state .u) (state .n) ≡ false = not-ahead (state .u) (state .n) (never-ahead (state .u) (min (state .n) 4294967295) (state .n) (omega arith) behind) in
       let known = known-byte (h .«compression_byte») (sound .known .0) (sound .known .1) in
       let total = lt-leb (2 ^ 64) (totalSamples h) (sound .total) in
       let suits = ap not (sound .lengths-suit) in
-      voice-within readVoiceNumbers (r .voice) (r .sides) _ (rw (rules-are (r .voice) (length (r .sides .left)) (length (r .sides .right)) _) (known, (total, (suits, (key, tt)))))
+      let p = playing s (state .u) in
+      voice-within readVoiceNumbers (r .voice) (r .sides) p (state .n) places
+      (rw (rules-are (r .voice) (length (r .sides .left)) (length (r .sides .right)) p (state .n) places) (known, (total, (suits, (key, tt)))))
 
   read-from : (calls : List Call) (state : State) → Behind state → All (RefusedAmong readVoiceNumbers) (reckonFrom r s state calls .answers)
   unfolding reckonFrom
   read-from [] state behind = tt
   read-from (fill places ∷ calls) state behind =
-      let o = fillOf r s state places in
+      let o = fillAt r s state places in
       (answer-among readVoiceNumbers o (read-fill state places behind), read-from calls (grown o state) (behind-fill o state behind))
   read-from (keyUp ∷ calls) state behind = read-from calls (record { n = state .n; u = setBy (state .u) (state .n) }) (behind-key-up (state .n) (state .u) behind)
 

@@ -10,7 +10,7 @@ use lib.Dec.{eqb, ltb}
 use lib.IntN.{ℤ}
 use lib.ListN.{length, drop}
 use Rattle.refusal.specs.Numbers.{fileShort, notForm, not8svx, noHeader, noBody, compression, oddHalves, channelShort, octaveTotal, samplesShort}
-use Rattle.refusal.specs.Outcome.{Outcome}
+use Rattle.refusal.specs.Outcome.{Outcome, gives, refuses}
 use Rattle.field.specs.BigEndian.{bigEndian}
 use Rattle.header.specs.Octaves.{hi, totalSamples}
 use Rattle.header.specs.declared.compression.Compression.{Compression}
@@ -25,38 +25,43 @@ use Rattle.form.specs.Find.{firstOf}
 use Rattle.sheet_read.specs.FormVoice.{formVoice}
 use Rattle.sheet.specs.Voice.{isStereo}
 use Rattle.voice_read.specs.ReadVoice.{Reading, withChunk, readItems, formOf, headRefusal, readVoice}
-use Rattle.demands.specs.Demand1.{Among, readingNumbers}
+use Rattle.demands.specs.Demand1.{Among, sideNumbers, readingNumbers}
 use Rattle.demands.proofs.NumberLaws.{one-of, all-of, Within, by-test, then-within, unless-zero}
 use Rattle.demands.proofs.FirstNumbers.{chunkNumbers, bad-number}
 use Rattle.demands.proofs.DecodeNumbers.{compression-within, stream-within}
 
-octaves-within : (h : VoiceHeader) (samples : List ℤ) → Within readingNumbers (octavesOf h samples)
+octaves-within : (h : VoiceHeader) (samples : List ℤ) → Within sideNumbers (octavesOf h samples)
 octaves-within h samples =
-    by-test (Within readingNumbers) (ltb (totalSamples h) (2 ^ 64))
-    (by-test (Within readingNumbers) (eqb (hi h) 0) tt
-    (by-test (Within readingNumbers) (ltb (length samples) (totalSamples h)) (one-of readingNumbers samplesShort tt) tt))
-    (one-of readingNumbers octaveTotal tt)
+    by-test (Within sideNumbers) (ltb (totalSamples h) (2 ^ 64))
+    (by-test (Within sideNumbers) (eqb (hi h) 0) tt
+    (by-test (Within sideNumbers) (ltb (length samples) (totalSamples h)) (one-of sideNumbers samplesShort tt) tt))
+    (one-of sideNumbers octaveTotal tt)
 
-samples-within : (h : VoiceHeader) (c : Compression) (bytes : List ℕ) → Within readingNumbers (channelSamples h c bytes)
+samples-within : (h : VoiceHeader) (c : Compression) (bytes : List ℕ) → Within sideNumbers (channelSamples h c bytes)
 unfolding channelSamples
-samples-within h c bytes = then-within readingNumbers (stream c bytes) (octavesOf h) (stream-within readingNumbers (one-of readingNumbers channelShort tt) c bytes) (octaves-within h)
+samples-within h c bytes = then-within sideNumbers (stream c bytes) (octavesOf h) (stream-within sideNumbers (one-of sideNumbers channelShort tt) c bytes) (octaves-within h)
 
-mono-within : (h : VoiceHeader) (c : Compression) (bytes : List ℕ) → Within readingNumbers (oneSide h c bytes)
+mono-within : (h : VoiceHeader) (c : Compression) (bytes : List ℕ) → Within sideNumbers (oneSide h c bytes)
 unfolding oneSide
-mono-within h c bytes = then-within readingNumbers (channelSamples h c bytes) _ (samples-within h c bytes) (λ left. tt)
+mono-within h c bytes = then-within sideNumbers (channelSamples h c bytes) _ (samples-within h c bytes) (λ left. tt)
 
-stereo-within : (h : VoiceHeader) (c : Compression) (bytes : List ℕ) → Within readingNumbers (twoSides h c bytes)
+stereo-within : (h : VoiceHeader) (c : Compression) (bytes : List ℕ) → Within sideNumbers (twoSides h c bytes)
 unfolding twoSides
 stereo-within h c bytes =
-    by-test (Within readingNumbers) (uneven c bytes) (one-of readingNumbers oddHalves tt)
-    (then-within readingNumbers (channelSamples h c (leftHalf bytes)) _ (samples-within h c (leftHalf bytes)) (λ left.
-    then-within readingNumbers (channelSamples h c (rightHalf bytes)) _ (samples-within h c (rightHalf bytes)) (λ right. tt)))
+    by-test (Within sideNumbers) (uneven c bytes) (one-of sideNumbers oddHalves tt)
+    (then-within sideNumbers (channelSamples h c (leftHalf bytes)) _ (samples-within h c (leftHalf bytes)) (λ left.
+    then-within sideNumbers (channelSamples h c (rightHalf bytes)) _ (samples-within h c (rightHalf bytes)) (λ right. tt)))
 
-sides-within : (h : VoiceHeader) (stereo : Bool) (bytes : List ℕ) → Within readingNumbers (bodySides h stereo bytes)
+pub sides-within : (h : VoiceHeader) (stereo : Bool) (bytes : List ℕ) → Within sideNumbers (bodySides h stereo bytes)
 unfolding bodySides
 sides-within h stereo bytes =
-    compression-within readingNumbers (one-of readingNumbers compression tt) (h .«compression_byte») _ (λ c.
-    by-test (Within readingNumbers) stereo (stereo-within h c bytes) (mono-within h c bytes))
+    compression-within sideNumbers (one-of sideNumbers compression tt) (h .«compression_byte») _ (λ c.
+    by-test (Within sideNumbers) stereo (stereo-within h c bytes) (mono-within h c bytes))
+
+-- numbers of the shorter list are of the longer
+widened : {A : Type 0} (o : Outcome A) → Within sideNumbers o → Within readingNumbers o
+widened (gives a) w = tt
+widened (refuses n) w = all-of readingNumbers sideNumbers tt n w
 
 chunk-within : (number : ℕ) (o : Option (List ℕ)) (next : List ℕ → Outcome Reading) → Among number readingNumbers → ((b : List ℕ) → Within readingNumbers (next b))
     → Within readingNumbers (withChunk number o next)
@@ -70,7 +75,7 @@ items-within items a =
     unless-zero readingNumbers (Within readingNumbers) (firstBad items) (all-of (0 ∷ readingNumbers) (0 ∷ chunkNumbers) tt (firstBad items) a)
     (chunk-within noHeader (firstOf vhdr items) _ (one-of readingNumbers noHeader tt) (λ header.
     chunk-within noBody (firstOf body items) _ (one-of readingNumbers noBody tt) (λ bytes.
-    then-within readingNumbers (bodySides (v .header) (isStereo (v .channel)) bytes) _ (sides-within (v .header) (isStereo (v .channel)) bytes) (λ sides. tt))))
+    then-within readingNumbers (bodySides (v .header) (isStereo (v .channel)) bytes) _ (widened (bodySides (v .header) (isStereo (v .channel)) bytes) (sides-within (v .header) (isStereo (v .channel)) bytes)) (λ sides. tt))))
     (λ refused. refused)
 
 head-number : (file : List ℕ) → Among (headRefusal file) (0 ∷ readingNumbers)

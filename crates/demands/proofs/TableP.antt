@@ -2,26 +2,26 @@
 -- Assumes nothing.
 use mathlib.Core.Path.{refl, ap}
 use Rattle.refusal.specs.Outcome.{gives}
+use Rattle.refusal.specs.Rules.{firstHolding}
 use Rattle.header.specs.Octaves.{totalSamples}
 use Rattle.header.proofs.OctaveLaws as octaves
 use Rattle.small_chunks.specs.Pan.{heldToUnity}
 use Rattle.envelope.specs.Level.{scaledBy, onTheWay}
 use Rattle.envelope.specs.Envelope.{levelAt}
-use Rattle.note_frame.specs.Frame.{faded, beforeSides, value, frameOf, attackLevel, levelOf, frame}
-use Rattle.note_frame.specs.Frames.{framesFrom, interleaved, sounding}
-use Rattle.note_frame.specs.Gains.{gainsOf}
 use Rattle.fibonacci.proofs.Examples as fibonacci
 use Rattle.body_read.specs.Sides.{lengthsSuit}
 use Rattle.note_path.specs.Path.{pathOf, loopPath, joinedLength, allValid}
+use Rattle.note_frame.specs.Frame.{attackLevel, levelOf, fadedAt, value, frameAt, frame}
+use Rattle.note_frame.specs.Frames.{framesFrom, interleaved, sounding}
 use Rattle.note_frame.specs.Shares.{sharesOf}
-use Rattle.note_rules.specs.Rules.{firstHolding, fillRules}
+use Rattle.note_rules.specs.Rules.{fillRules}
 use Rattle.note.specs.Fill.{fillVoice}
 use Rattle.demands.specs.Reckoning.{reckonFrom}
 use Rattle.demands.specs.TableP.{TableP}
 use Rattle.demands.proofs.Demand2.{demand2}
 
 pub tableP : TableP
-unfolding levelAt onTheWay scaledBy value beforeSides faded gainsOf sharesOf reckonFrom fillVoice firstHolding fillRules totalSamples lengthsSuit allValid joinedLength framesFrom interleaved sounding frame frameOf pathOf loopPath levelOf attackLevel heldToUnity
+unfolding levelAt onTheWay scaledBy value fadedAt sharesOf reckonFrom fillVoice firstHolding fillRules totalSamples lengthsSuit allValid joinedLength framesFrom interleaved sounding frame frameAt pathOf loopPath levelOf attackLevel heldToUnity
 tableP = record {
   up-and-down = ap gives fibonacci.rises;
   held-above = ap gives fibonacci.held-high;
@@ -36,5 +36,7 @@ tableP = record {
   largest-total = octaves.largest-total;
   octave-past-it = octaves.octave-past-it;
   all-full = refl;
-  whole-file = rw (demand2 .example-read) refl;
+  whole-file-read = demand2 .example-read;
+  whole-file-written = demand2 .example-written;
+  whole-file-played = rw (demand2 .example-read) refl;
 }

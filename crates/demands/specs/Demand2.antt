@@ -43,12 +43,6 @@ pub record Acceptable (r : Reading) : Type 0 where
   pub total : totalSamples (r .voice .header) < 2 ^ 64
   pub known : (c : Compression) × (knownCompression (r .voice .header .«compression_byte») ≡ Known c)
 
--- a sheet of bytes is the flat form of a voice that a sheet can hold
-pub record FlatForm (sheet : List ℕ) : Type 0 where
-  pub voice : Voice
-  pub allowed : Allowed voice
-  pub is : flat voice ≡ sheet
-
 -- one whole file: one-shot 1, 8,000 Hz, one octave, full volume, and one sample, -2
 abbrev pub exampleFile : List ℕ
 exampleFile =
@@ -95,9 +89,9 @@ pub record Demand2 : Type 0 where
   pub accepted : (file : List ℕ) (r : Reading) → Bytes file → readVoice file ≡ gives r → Acceptable r
   -- its samples are samples
   pub samples : (file : List ℕ) (r : Reading) → readVoice file ≡ gives r → Samples (r .sides .left) × Samples (r .sides .right)
-  -- judging accepts the flat forms of voices, and nothing else
+  -- judging accepts the flat forms of voices, and nothing else: a sheet that it accepts is that of the voice that it reads as
   pub flat-sound : (v : Voice) → Allowed v → judged (flat v) ≡ Sound
-  pub sound-flat : (sheet : List ℕ) → Bytes sheet → judged sheet ≡ Sound → FlatForm sheet
+  pub sound-flat : (sheet : List ℕ) → Bytes sheet → judged sheet ≡ Sound → Allowed (readSheet sheet) × (flat (readSheet sheet) ≡ sheet)
   -- samples decoded from a whole Fibonacci stream survive being written and decoded
   pub fibonacci-survives : (body : List ℕ) → fibSamples (fibBytes (fibSamples body)) ≡ fibSamples body
   -- the whole example file is read as its voice, and written from it

@@ -1,79 +1,71 @@
 -- Demand 3. For every list of fills and key-ups, refused ones included, in blocks of any lengths, from a fresh note on a read voice: the
 -- answers and the accepted blocks, joined, are those of the reckoning, which knows the file's bytes, n and u alone. It is proved as
--- `demand3`.
+-- `demand3`. What the code does comes in by three names, which are what the contracts say: `afterReading` (parse_voice), `afterFill`
+-- (a note's fill, inside `play`) and `afterCalls` (make_calls).
 use Prim.Native.Nat.{ℕ}
+use mathlib.Core.Bool.{true, cond}
 use mathlib.Core.List.{List, [], _∷_, map}
 use mathlib.Core.Logic.{_⊎_}
 use mathlib.Core.Path.{_≡_}
 use lib.IntN.{ℤ}
 use lib.ListN.{length, take}
+use Rattle.laws.specs.Buffer.{written}
 use Rattle.refusal.specs.Numbers.{segment, sequenceOneShot, fadeSegment, sequenceLength, oddPlaces, noOctave, step, rate}
-use Rattle.refusal.specs.Outcome.{Outcome, gives, refuses}
+use Rattle.refusal.specs.Outcome.{gives, refuses}
+use Rattle.refusal.specs.Rules.{Holds, NoneHolds, numbersOf}
 use Rattle.field.specs.BigEndian.{Bytes}
 use Rattle.sheet.specs.Allowed.{All}
-use Rattle.sheet.specs.Flat.{flat}
 use Rattle.sheet.specs.Judge.{judged}
 use Rattle.sheet.specs.Read.{readSheet}
+use Rattle.sheet.specs.Voice as sheet
 use Rattle.sheet.specs.declared.judge.Judged.the-variants as Judged
 use Rattle.body_read.specs.Sides.{Sides}
 use Rattle.note_frame.specs.declared.chain.Frame.{Frame}
-use Rattle.note_rules.specs.Rules.{Holds, NoneHolds, fillRules}
-use Rattle.note_rules.specs.declared.state.Request.{Request}
-use Rattle.note.specs.Fill.{fillSheet, answerOf, noteAfter, blockAfter}
-use Rattle.note.specs.Note.{startOf, keyUpOf, requestOf}
+use Rattle.note_frame.specs.declared.playing.Playing.{Playing}
+use Rattle.note_rules.specs.Rules.{fillRules}
+use Rattle.note.specs.Fill.{fillSheet}
+use Rattle.note.specs.Note.{startOf}
 use Rattle.note.specs.declared.Answer.{Answer}
 use Rattle.note.specs.declared.Answer.the-variants as Answer
 use Rattle.note.specs.declared.Note.{Note}
-use Rattle.voice_read.specs.Parsed.{answerOf as parsedOf, after}
+use Rattle.note_calls.specs.Play.{HostCall, fillBuffer, keyUpNow, PutOut, play}
+use Rattle.note_calls.specs.Made.{isKeyUp, answerNumber, roomFor, afterCalls}
+use Rattle.voice_read.specs.Parsed.{Lent, afterReading}
 use Rattle.voice_read.specs.ReadVoice.{Reading, readVoice}
 use Rattle.voice_read.specs.declared.chunks.Lengths.{Lengths}
 use Rattle.voice_read.specs.declared.chunks.Parsed.the-variants.{Voice}
-use Rattle.demands.specs.Demand1.{Among}
-use Rattle.demands.specs.Reckoning.{Call, fill, keyUp, Started, PutOut, before, reckonFrom, atFirst, reckon, keyOf, framesOf, firstFrames}
+use Rattle.demands.specs.Demand1.{Among, sheetNumbers}
+use Rattle.demands.specs.Reckoning.{Call, fill, keyUp, Started, reckonFrom, atFirst, reckon, OneNote}
 
--- ---- the calls as a host makes them
+-- ---- what the reckoning is told
 
--- a fill of a buffer, with what it held before, or a key-up
-pub data HostCall : Type 0 where
-  fillBuffer : List ℤ → HostCall
-  keyUpNow : HostCall
-
--- what the reckoning is told of a call
+-- of a call as a host makes it
 abbrev pub toldOf : HostCall → Call
 toldOf (fillBuffer buffer) = fill (length buffer)
 toldOf keyUpNow = keyUp
 
--- an accepted fill's block is what its buffer holds after the call
-abbrev pub accepted : Outcome (List Frame) → List ℤ → List ℤ
-accepted (gives block) buffer = blockAfter (gives block) buffer
-accepted (refuses number) buffer = []
+-- of a number that make_calls takes for a call
+abbrev pub toldBy : ℕ → Call
+toldBy call = cond (isKeyUp call) keyUp (fill call)
 
--- what the calls put out, by the contracts of fill and key_up, on a sheet and samples
-unfoldable pub play : List ℕ → Sides → Note → List HostCall → PutOut
-play sheet s note [] = record { answers = []; blocks = [] }
-play sheet s note (fillBuffer buffer ∷ calls) =
-    before (answerOf (fillSheet sheet s (requestOf note (length buffer)))) (accepted (fillSheet sheet s (requestOf note (length buffer))) buffer)
-    (play sheet s (noteAfter (fillSheet sheet s (requestOf note (length buffer))) note) calls)
-play sheet s note (keyUpNow ∷ calls) = play sheet s (keyUpOf note) calls
-
--- ---- what reading put out
-
--- the three buffers that a reading was lent
-pub record Lent : Type 0 where
-  pub sheet : List ℕ
-  pub left : List ℤ
-  pub right : List ℤ
+-- ---- a fresh note on what reading put out
 
 -- the sheet, cut to its length
 abbrev pub sheetRead : List ℕ → Lent → Lengths → List ℕ
-sheetRead file b l = take (l .sheet) (after (λ r. flat (r .voice)) (readVoice file) (length (b .sheet)) (length (b .left)) (length (b .right)) (b .sheet))
+sheetRead file b l = take (l .sheet) (afterReading file b .buffers .sheet)
 
 -- both sides, cut to their lengths
 abbrev pub sidesRead : List ℕ → Lent → Lengths → Sides
-sidesRead file b l = record {
-  left = take (l .left) (after (λ r. r .sides .left) (readVoice file) (length (b .sheet)) (length (b .left)) (length (b .right)) (b .left));
-  right = take (l .right) (after (λ r. r .sides .right) (readVoice file) (length (b .sheet)) (length (b .left)) (length (b .right)) (b .right));
-}
+sidesRead file b l = record { left = take (l .left) (afterReading file b .buffers .left); right = take (l .right) (afterReading file b .buffers .right) }
+
+-- as starting returned it
+abbrev pub freshNote : Started → Note
+freshNote s = startOf (s .octave) (s .step) (s .rate)
+
+-- a reading of a file of bytes that was accepted, into these buffers, with these lengths
+pub record WasRead (file : List ℕ) (b : Lent) (l : Lengths) : Type 0 where
+  pub bytes : Bytes file
+  pub accepted : afterReading file b .parsed ≡ Voice l
 
 -- ---- rules
 
@@ -91,19 +83,31 @@ RefusedAmong numbers (Answer.Refused n) = Among n numbers
 -- what a list of calls gives, which one note it is, and what can turn a fill back
 pub record Demand3 : Type 0 where
   -- every list of calls from a fresh note on what reading put out gives the reckoning's answers and blocks
-  pub played : (file : List ℕ) (b : Lent) (l : Lengths) (s : Started) (calls : List HostCall) → Bytes file
-      → parsedOf (readVoice file) (length (b .sheet)) (length (b .left)) (length (b .right)) ≡ Voice l
-      → reckon file s (map toldOf calls) ≡ gives (play (sheetRead file b l) (sidesRead file b l) (startOf (s .octave) (s .step) (s .rate)) calls)
-  -- the reckoning's blocks are the first frames, as many as they hold, of one note: released at the frames put out before the first
-  -- key-up, or held throughout
-  pub one-note : (r : Reading) (s : Started) (calls : List Call)
-      → reckonFrom r s atFirst calls .blocks ≡ firstFrames r s (keyOf r s calls) (framesOf (reckonFrom r s atFirst calls))
+  pub played : (file : List ℕ) (b : Lent) (l : Lengths) (s : Started) (calls : List HostCall) → WasRead file b l
+      → reckon file s (map toldOf calls) ≡ gives (play (sheetRead file b l) (sidesRead file b l) (freshNote s) calls)
+  -- so does a list that make_calls makes, where there is room for it: its buffers then begin with the reckoning's blocks and answers
+  pub made : (file : List ℕ) (b : Lent) (l : Lengths) (s : Started) (calls : List ℕ) (blocks : List ℤ) (answers : List ℕ) (p : PutOut) → WasRead file b l
+      → roomFor calls (length blocks) (length answers) ≡ true → reckon file s (map toldBy calls) ≡ gives p →
+      let left = afterCalls (sheetRead file b l) (sidesRead file b l) (freshNote s) calls blocks answers in
+      (left .blocks ≡ written (p .blocks) blocks) × (left .answers ≡ written (map answerNumber (p .answers)) answers)
+  -- the reckoning puts out one note: released at the frames put out before the first key-up, or held throughout
+  pub one-note : (r : Reading) (s : Started) (calls : List Call) → OneNote r s calls (reckonFrom r s atFirst calls)
+  -- and so does the list of calls itself
+  pub played-note : (file : List ℕ) (b : Lent) (l : Lengths) (s : Started) (calls : List HostCall) (r : Reading) → WasRead file b l → readVoice file ≡ gives r
+      → OneNote r s (map toldOf calls) (play (sheetRead file b l) (sidesRead file b l) (freshNote s) calls)
   -- a read voice is never refused by 10, 13, 15 to 18 or 34
   pub read-voice : (file : List ℕ) (r : Reading) (s : Started) (calls : List Call) → Bytes file → readVoice file ≡ gives r
       → All (RefusedAmong readVoiceNumbers) (reckonFrom r s atFirst calls .answers)
+  -- a sheet that is refused, by 15, 16 or 17, turns every fill back before any rule is looked at
+  pub sheet-first : (sheet : List ℕ) (s : Sides) (n : Playing) (frames places number : ℕ) → judged sheet ≡ Judged.Refused number
+      → (fillSheet sheet s n frames places ≡ refuses number) × Among number sheetNumbers
+  -- the rules, in the order in which they are judged
+  pub order : (v : sheet.Voice) (left right : ℕ) (n : Playing) (frames places : ℕ)
+      → numbersOf (fillRules v left right n frames places) ≡ 10 ∷ 13 ∷ 18 ∷ 21 ∷ 22 ∷ 23 ∷ 24 ∷ 25 ∷ 31 ∷ 32 ∷ 33 ∷ 34 ∷ []
   -- any fill is refused only by a rule that holds: the sheet's verdict, or one of the rules
-  pub by-a-rule : (sheet : List ℕ) (s : Sides) (r : Request) (n : ℕ) → fillSheet sheet s r ≡ refuses n
-      → (judged sheet ≡ Judged.Refused n) ⊎ ((judged sheet ≡ Judged.Sound) × Holds n (fillRules (readSheet sheet) (length (s .left)) (length (s .right)) r))
+  pub by-a-rule : (sheet : List ℕ) (s : Sides) (n : Playing) (frames places number : ℕ) → fillSheet sheet s n frames places ≡ refuses number
+      → (judged sheet ≡ Judged.Refused number)
+      ⊎ ((judged sheet ≡ Judged.Sound) × Holds number (fillRules (readSheet sheet) (length (s .left)) (length (s .right)) n frames places))
   -- and accepted only where none does
-  pub by-none : (sheet : List ℕ) (s : Sides) (r : Request) (block : List Frame) → fillSheet sheet s r ≡ gives block
-      → (judged sheet ≡ Judged.Sound) × NoneHolds (fillRules (readSheet sheet) (length (s .left)) (length (s .right)) r)
+  pub by-none : (sheet : List ℕ) (s : Sides) (n : Playing) (frames places : ℕ) (block : List Frame) → fillSheet sheet s n frames places ≡ gives block
+      → (judged sheet ≡ Judged.Sound) × NoneHolds (fillRules (readSheet sheet) (length (s .left)) (length (s .right)) n frames places)

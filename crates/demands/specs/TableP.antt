@@ -13,9 +13,10 @@ use Rattle.fibonacci.specs.Decode.{fibChannel}
 use Rattle.fibonacci.specs.Encode.{fibBytes}
 use Rattle.envelope.specs.Envelope.{levelAt}
 use Rattle.note_frame.specs.Frame.{value}
-use Rattle.note_frame.specs.Gains.{gainsOf}
 use Rattle.note.specs.declared.Answer.the-variants as Answer
-use Rattle.demands.specs.Demand2.{exampleFile, exampleVoice}
+use Rattle.voice_read.specs.ReadVoice.{readVoice}
+use Rattle.voice_write.specs.WriteVoice.{writeVoice}
+use Rattle.demands.specs.Demand2.{exampleFile, exampleVoice, exampleSides}
 use Rattle.demands.specs.Reckoning.{fill, reckon}
 
 -- an envelope of one point
@@ -61,7 +62,11 @@ pub record TableP : Type 0 where
   -- 65 octaves: 13
   pub octave-past-it : total (oneSample 65) ≡ Refused octaveTotal
   -- sample -2, all full: -512
-  pub all-full : value (gainsOf exampleVoice 0) 65536 0 (negsuc 1) 65536 ≡ negsuc 511
-  -- the whole file: a block of two frames is -512 on both sides, then over
-  pub whole-file : reckon exampleFile (record { octave = 0; step = 65536; rate = 8000 }) (fill 4 ∷ [])
+  pub all-full : value exampleVoice 0 0 65536 (negsuc 1) 65536 ≡ negsuc 511
+  -- the whole file reads as its voice and its sample
+  pub whole-file-read : readVoice exampleFile ≡ gives (record { voice = exampleVoice; sides = exampleSides })
+  -- and they write as the file
+  pub whole-file-written : writeVoice exampleVoice exampleSides ≡ gives exampleFile
+  -- a block of two frames of it is -512 on both sides, then over
+  pub whole-file-played : reckon exampleFile (record { octave = 0; step = 65536; rate = 8000 }) (fill 4 ∷ [])
       ≡ gives (record { answers = Answer.Sounding 1 ∷ []; blocks = negsuc 511 ∷ negsuc 511 ∷ pos 0 ∷ pos 0 ∷ [] })

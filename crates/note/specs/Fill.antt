@@ -37,10 +37,10 @@ pub record FillResult : Type 0 where
 
 -- an accepted fill answers how many of its frames aren't over, and writes left and right values by turns; a refused one answers its
 -- number, and leaves note and buffer as they were
-abbrev pub resultOf : Outcome (List Frame) → Note → List ℤ → FillResult
-resultOf (gives block) n buffer = record { answer = Sounding (sounding block); note = advanceOf n (length block); buffer = interleaved block }
-resultOf (refuses number) n buffer = record { answer = Refused number; note = n; buffer = buffer }
+abbrev pub fillLeaves : Outcome (List Frame) → Note → List ℤ → FillResult
+fillLeaves (gives block) n buffer = record { answer = Sounding (sounding block); note = advanceOf n (length block); buffer = interleaved block }
+fillLeaves (refuses number) n buffer = record { answer = Refused number; note = n; buffer = buffer }
 
 -- what `fill` leaves, on a sheet and its samples
 abbrev pub afterFill : List ℕ → Sides → Note → List ℤ → FillResult
-afterFill sheet s n buffer = resultOf (fillSheet sheet s (n .playing) (n .frames) (length buffer)) n buffer
+afterFill sheet s n buffer = fillLeaves (fillSheet sheet s (n .playing) (n .frames) (length buffer)) n buffer

@@ -13,7 +13,7 @@ ghost use Rattle.sheet.specs.Read.{readSheet};
 ghost use Rattle.sheet.specs.declared.judge.Judged.the-variants.{Sound};
 ghost use Rattle.body_read.specs.Sides.{Sides};
 ghost use Rattle.note.specs.Note.{startOf, keyAfter, keyUpOf, advanceOf};
-ghost use Rattle.note.specs.Fill.{fillVoice, resultOf, afterFill};
+ghost use Rattle.note.specs.Fill.{fillVoice, fillLeaves, afterFill};
 
 // A note: how it plays (octave, step, output rate, held or released), and the frames filled.
 pub struct Note {
@@ -92,9 +92,9 @@ impl Note {
     // A fill of a sound sheet.
     fn fill_sound(self, sheet: &[u8], left: &[i8], right: &[i8], out: &mut [i16]) -> Filled
         requires { ⌜ judged (now sheet) ≡ Sound ⌝ }
-        ensures answer { λ r. ⌜ r .answer ≡ resultOf (fillVoice (readSheet (now (sheet .entry))) (record { left = now (left .entry); right = now (right .entry) }) (self .playing) (self .frames) (length (now (out .entry)))) self (now (out .entry)) .answer ⌝ }
-        ensures note { λ r. ⌜ r .note ≡ resultOf (fillVoice (readSheet (now (sheet .entry))) (record { left = now (left .entry); right = now (right .entry) }) (self .playing) (self .frames) (length (now (out .entry)))) self (now (out .entry)) .note ⌝ }
-        ensures buffer { λ _. ⌜ now (out .exit) ≡ resultOf (fillVoice (readSheet (now (sheet .entry))) (record { left = now (left .entry); right = now (right .entry) }) (self .playing) (self .frames) (length (now (out .entry)))) self (now (out .entry)) .buffer ⌝ }
+        ensures answer { λ r. ⌜ r .answer ≡ fillLeaves (fillVoice (readSheet (now (sheet .entry))) (record { left = now (left .entry); right = now (right .entry) }) (self .playing) (self .frames) (length (now (out .entry)))) self (now (out .entry)) .answer ⌝ }
+        ensures note { λ r. ⌜ r .note ≡ fillLeaves (fillVoice (readSheet (now (sheet .entry))) (record { left = now (left .entry); right = now (right .entry) }) (self .playing) (self .frames) (length (now (out .entry)))) self (now (out .entry)) .note ⌝ }
+        ensures buffer { λ _. ⌜ now (out .exit) ≡ fillLeaves (fillVoice (readSheet (now (sheet .entry))) (record { left = now (left .entry); right = now (right .entry) }) (self .playing) (self .frames) (length (now (out .entry)))) self (now (out .entry)) .buffer ⌝ }
     {
         let l = layout_of(sheet);
         let playing = self.playing;

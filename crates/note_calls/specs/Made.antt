@@ -53,20 +53,20 @@ pub record MadeResult : Type 0 where
   pub answers : List ℕ
 
 -- by what `play` puts out and the note after it
-abbrev pub resultOf : PutOut → Note → List ℤ → List ℕ → MadeResult
-resultOf p n blocks answers = record {
+abbrev pub callsLeave : PutOut → Note → List ℤ → List ℕ → MadeResult
+callsLeave p n blocks answers = record {
   made = Calls n (length (p .blocks)) (length (p .answers));
   blocks = written (p .blocks) blocks;
   answers = written (map answerNumber (p .answers)) answers;
 }
 
 -- where there is no room for all, nothing is written
-abbrev pub refused : List ℤ → List ℕ → MadeResult
-refused blocks answers = record { made = Refused bufferShort; blocks = blocks; answers = answers }
+abbrev pub noRoom : List ℤ → List ℕ → MadeResult
+noRoom blocks answers = record { made = Refused bufferShort; blocks = blocks; answers = answers }
 
 -- what `make_calls` leaves
 abbrev pub afterCalls : List ℕ → Sides → Note → List ℕ → List ℤ → List ℕ → MadeResult
 afterCalls sheet s n calls blocks answers =
     cond (roomFor calls (length blocks) (length answers))
-    (resultOf (play sheet s n (hostCalls calls)) (lastNote sheet s n (hostCalls calls)) blocks answers)
-    (refused blocks answers)
+    (callsLeave (play sheet s n (hostCalls calls)) (lastNote sheet s n (hostCalls calls)) blocks answers)
+    (noRoom blocks answers)

@@ -31,7 +31,7 @@ use Rattle.sheet.specs.Voice as sheet
 use Rattle.body_read.specs.Sides.{Sides, bodySides}
 use Rattle.body_read.specs.Answers.{sideLengthsOf, SidesFit, leftAfter, rightAfter}
 use Rattle.body_read.specs.declared.lengths.SideLengths.the-variants as count
-use Rattle.voice_read.specs.Parsed.{lengthsOf, neededBy, fits, answerOf, after}
+use Rattle.voice_read.specs.Parsed.{Lent, lengthsOf, neededBy, fits, readingLeaves}
 use Rattle.voice_read.specs.ReadVoice.{Reading, withSides, formOf, readVoice}
 use Rattle.voice_read.specs.declared.chunks.Lengths.{Lengths}
 use Rattle.voice_read.specs.declared.chunks.Parsed.{Parsed}
@@ -77,12 +77,14 @@ lengths-given (refuses k) l e = impossible cc
 -- ---- the answer and the buffers
 
 -- they are those of an outcome
-abbrev pub Answered : Outcome Reading → Parsed → List ℕ → List ℤ → List ℤ → List ℕ → List ℤ → List ℤ → Type 0
-Answered o answer sheet left right sheet′ left′ right′ =
-    (answer ≡ answerOf o (length sheet) (length left) (length right))
-    × ((sheet′ ≡ after (λ r. flat (r .voice)) o (length sheet) (length left) (length right) sheet)
-    × ((left′ ≡ after (λ r. r .sides .left) o (length sheet) (length left) (length right) left)
-    × (right′ ≡ after (λ r. r .sides .right) o (length sheet) (length left) (length right) right)))
+abbrev pub Answered : Outcome Reading → Parsed → Lent → Lent → Type 0
+Answered o answer b b′ =
+    let w = readingLeaves o b in
+    (answer ≡ w .parsed) × ((b′ .sheet ≡ w .buffers .sheet) × ((b′ .left ≡ w .buffers .left) × (b′ .right ≡ w .buffers .right)))
+
+-- three buffers as one
+abbrev pub lent : List ℕ → List ℤ → List ℤ → Lent
+lent sheet left right = record { sheet = sheet; left = left; right = right }
 
 second-false : (a c : Bool) → (a && false && c) ≡ false
 second-false true c = refl
@@ -94,23 +96,23 @@ third-false true false = refl
 third-false false b = refl
 
 module _ (o : Outcome Reading) (sheet : List ℕ) (left right : List ℤ) where
-  pub answer-refused : (number : ℕ) → o ≡ refuses number → Answered o (Refused number) sheet left right sheet left right
+  pub answer-refused : (number : ℕ) → o ≡ refuses number → Answered o (Refused number) (lent sheet left right) (lent sheet left right)
   answer-refused number e = rw e (refl, (refl, (refl, refl)))
 
   module _ (l : Lengths) (m : Measured o l) where
-    unfit : fits (m .reading) (length sheet) (length left) (length right) ≡ false → Answered o (Refused bufferShort) sheet left right sheet left right
+    unfit : fits (m .reading) (length sheet) (length left) (length right) ≡ false → Answered o (Refused bufferShort) (lent sheet left right) (lent sheet left right)
     unfit e = rw (m .is, e) (refl, (refl, (refl, refl)))
 
-    pub sheet-short : length sheet < l .sheet → Answered o (Refused bufferShort) sheet left right sheet left right
+    pub sheet-short : length sheet < l .sheet → Answered o (Refused bufferShort) (lent sheet left right) (lent sheet left right)
     sheet-short h = unfit (rw (lt-leb (length (flat (m .reading .voice))) (length sheet) (rw (← m .lengths) at h)))
 
-    pub left-short : length left < l .left → Answered o (Refused bufferShort) sheet left right sheet left right
+    pub left-short : length left < l .left → Answered o (Refused bufferShort) (lent sheet left right) (lent sheet left right)
     left-short h =
         unfit
         (rw (lt-leb (length (m .reading .sides .left)) (length left) (rw (← m .lengths) at h))
         (second-false (leb (length (flat (m .reading .voice))) (length sheet)) (leb (length (m .reading .sides .right)) (length right))))
 
-    pub right-short : length right < l .right → Answered o (Refused bufferShort) sheet left right sheet left right
+    pub right-short : length right < l .right → Answered o (Refused bufferShort) (lent sheet left right) (lent sheet left right)
     right-short h =
         unfit
         (rw (lt-leb (length (m .reading .sides .right)) (length right) (rw (← m .lengths) at h))
@@ -118,7 +120,7 @@ module _ (o : Outcome Reading) (sheet : List ℕ) (left right : List ℤ) where
 
     pub answer-fits : l .sheet ≤ length sheet → l .left ≤ length left → l .right ≤ length right → (sheet′ : List ℕ) (left′ right′ : List ℤ)
         → sheet′ ≡ written (flat (m .reading .voice)) sheet → left′ ≡ written (m .reading .sides .left) left → right′ ≡ written (m .reading .sides .right) right
-        → Answered o (Voice l) sheet left right sheet′ left′ right′
+        → Answered o (Voice l) (lent sheet left right) (lent sheet′ left′ right′)
     answer-fits hs hl hr sheet′ left′ right′ es el er =
         rw (
           m .is,
@@ -148,7 +150,7 @@ module _ (file : List ℕ) (l : Lengths) (m : Measured (readVoice file) l) (f : 
   -- what they make of the answer and of the buffers
   pub outputs-written : (sheet sheet′ : List ℕ) (left left′ right right′ : List ℤ) → l .sheet ≤ length sheet → l .left ≤ length left → l .right ≤ length right
       → sheet′ ≡ written (flat (formVoice (itemsFrom f 12))) sheet → left′ ≡ leftAfter formSides left → right′ ≡ rightAfter formSides right
-      → Answered (readVoice file) (Voice l) sheet left right sheet′ left′ right′
+      → Answered (readVoice file) (Voice l) (lent sheet left right) (lent sheet′ left′ right′)
   outputs-written sheet sheet′ left left′ right right′ hs hl hr es el er =
       let sides = given-sides (itemsFrom f 12) (m .reading) given in
       answer-fits (readVoice file) sheet left right l m hs hl hr sheet′ left′ right′ (rw (← given .voice) at es) (rw sides at el) (rw sides at er)

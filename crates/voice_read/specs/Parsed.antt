@@ -9,7 +9,7 @@ use Rattle.laws.specs.Buffer.{written}
 use Rattle.refusal.specs.Numbers.{bufferShort}
 use Rattle.refusal.specs.Outcome.{Outcome, gives, refuses}
 use Rattle.sheet.specs.Flat.{flat}
-use Rattle.voice_read.specs.ReadVoice.{Reading}
+use Rattle.voice_read.specs.ReadVoice.{Reading, readVoice}
 use Rattle.voice_read.specs.declared.chunks.Lengths.{Lengths}
 use Rattle.voice_read.specs.declared.chunks.Parsed.{Parsed}
 use Rattle.voice_read.specs.declared.chunks.Parsed.the-variants.{Voice, Refused}
@@ -27,12 +27,29 @@ neededBy (refuses number) = Refused number
 abbrev pub fits : Reading → ℕ → ℕ → ℕ → Bool
 fits r sheet left right = leb (length (flat (r .voice))) sheet && leb (length (r .sides .left)) left && leb (length (r .sides .right)) right
 
--- the answer: the lengths, or the refusal, or 20 where a buffer is too short
-abbrev pub answerOf : Outcome Reading → ℕ → ℕ → ℕ → Parsed
-answerOf (gives r) sheet left right = cond (fits r sheet left right) (Voice (lengthsOf r)) (Refused bufferShort)
-answerOf (refuses number) sheet left right = Refused number
+-- the three buffers that a reading is lent
+pub record Lent : Type 0 where
+  pub sheet : List ℕ
+  pub left : List ℤ
+  pub right : List ℤ
 
--- what one of the buffers, of elements of any type, holds after the call: its output and past that what it held; or all that it held
-abbrev pub after : {A : Type 0} → (Reading → List A) → Outcome Reading → ℕ → ℕ → ℕ → List A → List A
-after output (gives r) sheet left right buffer = cond (fits r sheet left right) (written (output r) buffer) buffer
-after output (refuses number) sheet left right buffer = buffer
+-- what reading leaves: its answer, and what each buffer then holds
+pub record ReadResult : Type 0 where
+  pub parsed : Parsed
+  pub buffers : Lent
+
+-- the outputs at the fronts of the buffers, and past them what was there
+abbrev pub writtenTo : Reading → Lent → Lent
+writtenTo r b = record { sheet = written (flat (r .voice)) (b .sheet); left = written (r .sides .left) (b .left); right = written (r .sides .right) (b .right) }
+
+-- the lengths and the outputs, or the refusal, or 20 where a buffer is too short; a refused reading leaves all three as they were
+abbrev pub readingLeaves : Outcome Reading → Lent → ReadResult
+readingLeaves (gives r) b =
+    cond (fits r (length (b .sheet)) (length (b .left)) (length (b .right)))
+    (record { parsed = Voice (lengthsOf r); buffers = writtenTo r b })
+    (record { parsed = Refused bufferShort; buffers = b })
+readingLeaves (refuses number) b = record { parsed = Refused number; buffers = b }
+
+-- what `parse_voice` leaves
+abbrev pub afterReading : List ℕ → Lent → ReadResult
+afterReading file b = readingLeaves (readVoice file) b

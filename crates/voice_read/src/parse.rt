@@ -5,9 +5,7 @@ use crate::chunks::write_outputs;
 use chunk::form;
 use field::read32;
 ghost use mathlib.Core.Path.{_≡_};
-ghost use lib.ListN.{length};
-ghost use Rattle.sheet.specs.Flat.{flat};
-ghost use Rattle.voice_read.specs.Parsed.{neededBy, answerOf, after};
+ghost use Rattle.voice_read.specs.Parsed.{neededBy, afterReading};
 ghost use Rattle.voice_read.specs.ReadVoice.{headRefusal, readVoice};
 
 // 1 to 3 for what is no FORM 8SVX, or 0.
@@ -39,10 +37,10 @@ pub fn voice_lengths(file: &[u8]) -> Parsed
 
 // The voice of a file: its sheet and the samples of both sides, each at the front of its buffer. If one is short, none is written.
 pub fn parse_voice(file: &[u8], sheet: &mut [u8], left: &mut [i8], right: &mut [i8]) -> Parsed
-    ensures result { λ r. ⌜ r ≡ answerOf (readVoice (now (file .entry))) (length (now (sheet .entry))) (length (now (left .entry))) (length (now (right .entry))) ⌝ }
-    ensures sheet { λ _. ⌜ now (sheet .exit) ≡ after (λ x. flat (x .voice)) (readVoice (now (file .entry))) (length (now (sheet .entry))) (length (now (left .entry))) (length (now (right .entry))) (now (sheet .entry)) ⌝ }
-    ensures left { λ _. ⌜ now (left .exit) ≡ after (λ x. x .sides .left) (readVoice (now (file .entry))) (length (now (sheet .entry))) (length (now (left .entry))) (length (now (right .entry))) (now (left .entry)) ⌝ }
-    ensures right { λ _. ⌜ now (right .exit) ≡ after (λ x. x .sides .right) (readVoice (now (file .entry))) (length (now (sheet .entry))) (length (now (left .entry))) (length (now (right .entry))) (now (right .entry)) ⌝ }
+    ensures result { λ r. ⌜ r ≡ afterReading (now (file .entry)) (record { sheet = now (sheet .entry); left = now (left .entry); right = now (right .entry) }) .parsed ⌝ }
+    ensures sheet { λ _. ⌜ now (sheet .exit) ≡ afterReading (now (file .entry)) (record { sheet = now (sheet .entry); left = now (left .entry); right = now (right .entry) }) .buffers .sheet ⌝ }
+    ensures left { λ _. ⌜ now (left .exit) ≡ afterReading (now (file .entry)) (record { sheet = now (sheet .entry); left = now (left .entry); right = now (right .entry) }) .buffers .left ⌝ }
+    ensures right { λ _. ⌜ now (right .exit) ≡ afterReading (now (file .entry)) (record { sheet = now (sheet .entry); left = now (left .entry); right = now (right .entry) }) .buffers .right ⌝ }
 {
     match voice_lengths(file) {
         Parsed::Refused(number) => Parsed::Refused(number),

@@ -9,7 +9,7 @@ use Rattle.sheet.specs.Judge.{ifSound}
 use Rattle.sheet.specs.Read.{readSheet}
 use Rattle.sheet.specs.declared.judge.Judged.{Judged}
 use Rattle.note_frame.specs.declared.chain.Frame.{Frame}
-use Rattle.note.specs.Fill.{FillResult, fillVoice, resultOf}
+use Rattle.note.specs.Fill.{FillResult, fillVoice, fillLeaves}
 use Rattle.note.proofs.Note.fill.Statement.{statement}
 use Rattle.note.proofs.Note.fill.Tie as tie
 
@@ -21,7 +21,7 @@ sound-block s =
 
 -- and what is left, by the verdict
 abbrev left-by : tie.Start → Judged → FillResult
-left-by s j = resultOf (ifSound j refuses (sound-block s)) (s .args .self) (s .args .out .now)
+left-by s j = fillLeaves (ifSound j refuses (sound-block s)) (s .args .self) (s .args .out .now)
 
 judge-sheet-requires : tie.Need-judge-sheet-requires
 judge-sheet-requires c κs = search needs

@@ -13,7 +13,7 @@ use Rattle.note_frame.specs.declared.chain.Frame.{Frame}
 use Rattle.note_frame.proofs.FramesLaws.{frames-length}
 use Rattle.note.specs.Note.{advanceOf}
 use Rattle.note.specs.declared.Answer.the-variants.{Sounding}
-use Rattle.note.specs.Fill.{FillResult, resultOf}
+use Rattle.note.specs.Fill.{FillResult, fillLeaves}
 use Rattle.note.proofs.FillLaws.{fill-refused, fill-accepted}
 use Rattle.note.proofs.Note.fill_sound.Statement.{statement}
 use Rattle.note.proofs.Note.fill_sound.Tie as tie
@@ -23,7 +23,7 @@ sides s = record { left = s .args .left .now; right = s .args .right .now }
 
 -- what is left, by the outcome
 abbrev left-by : tie.Start → Outcome (List Frame) → FillResult
-left-by s o = resultOf o (s .args .self) (s .args .out .now)
+left-by s o = fillLeaves o (s .args .self) (s .args .out .now)
 
 layout-of-requires : tie.Need-layout-of-requires
 layout-of-requires c κs = search needs
