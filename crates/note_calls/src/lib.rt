@@ -12,4 +12,3 @@ pub enum Made {
     Calls(Note, usize, usize),
     Refused(u8),
 }
-
