@@ -30,7 +30,8 @@ use Rattle.sheet.specs.Voice.{isStereo}
 use Rattle.sheet.specs.declared.judge.Judged.{Judged}
 use Rattle.sheet.specs.declared.judge.Judged.the-variants.{Sound, Refused}
 use Rattle.octaves.specs.Octave.{octavePart, repeatAfter, afterOneShot, repeatStart, partBefore, partFrom, oneShotPart, repeatPart}
-use Rattle.octaves.specs.Part.{partOf, partAt, LiesWithin}
+use Rattle.octaves.specs.Part.{partOf, partAt}
+use Rattle.octaves.specs.ForCode.{LiesWithin}
 use Rattle.octaves.specs.Side.{ofSide, frontPart, voiceSide, sidePart}
 use Rattle.octaves.specs.declared.part.Part.{Part}
 use Rattle.octaves.specs.declared.part.Part.the-variants.{At, Absent}
