@@ -14,7 +14,8 @@ use native.Mathlib.Nat.{le-trans, mul-le-mul-left, sub-zero}
 use native.Mathlib.Omega.{arith}
 use Rattle.chunk.specs.declared.ChunkStep.the-variants.{Chunk, Refused, End}
 use Rattle.field.specs.BigEndian.{bigEndian}
-use Rattle.chunk.specs.Chunk.{Head, headOf, Item, firstItem, itemsOf, itemsFrom, endOf, placed, stepAt, whole, refused, none, chunk, bad}
+use Rattle.chunk.specs.Chunk.{Head, headOf, Item, firstItem, itemsOf, itemsFrom, endOf, whole, refused, none, chunk, bad}
+use Rattle.chunk.specs.ForCode.{placed, stepAt}
 use Rattle.laws.specs.Walk.{more, last, each}
 use Rattle.laws.proofs.WalkLaws.{walk-more, walk-last, walk-bound}
 

@@ -10,7 +10,8 @@ use Rattle.chunk.specs.declared.ChunkStep.{ChunkStep}
 use Rattle.chunk.specs.declared.ChunkStep.the-variants.{Chunk, Refused, End}
 use Rattle.chunk.proofs.ChunkStep.{enum}
 use Rattle.chunk.proofs.ChunkLaws.{at-end, at-refused}
-use Rattle.chunk.specs.Chunk.{Item, bad, stepAt, itemsFrom}
+use Rattle.chunk.specs.Chunk.{Item, bad, itemsFrom}
+use Rattle.chunk.specs.ForCode.{stepAt}
 use Rattle.laws.specs.Walk.{each}
 
 abbrev tag : ChunkStep → ℕ

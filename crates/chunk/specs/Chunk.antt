@@ -1,11 +1,9 @@
--- A FORM as a list of chunks, and what stands at a place of it.
+-- A FORM as a list of chunks.
 use Prim.Native.Nat.{ℕ, _+_, _-_, _%_, min}
 use lib.Dec.{ltb}
 use lib.ListN.{length, take, drop}
 use mathlib.Core.Bool.{cond}
 use mathlib.Core.List.{List, [], _∷_}
-use Rattle.chunk.specs.declared.ChunkStep.the-variants.{Chunk, Refused, End}
-use Rattle.chunk.specs.declared.ChunkStep.{ChunkStep}
 use Rattle.refusal.specs.Numbers.{chunkPastForm}
 use Rattle.field.specs.BigEndian.{bigEndian}
 use Rattle.laws.specs.Walk.{Front, more, last, walk}
@@ -42,13 +40,3 @@ itemsFrom f at = itemsOf (drop at f)
 -- where the walk of a file ends: the smaller of 8 + the FORM length and the file's end
 unfoldable pub endOf : List ℕ → ℕ
 endOf s = min (bigEndian 4 (drop 4 s) + 8) (length s)
-
--- the answer at a place
-abbrev pub placed : ℕ → Head → ChunkStep
-placed at (whole id n) = Chunk id (at + 8) n (at + 8 + n + n % 2)
-placed at (refused r) = Refused r
-placed at none = End
-
--- what stands at a place of the FORM
-unfoldable pub stepAt : List ℕ → ℕ → ChunkStep
-stepAt f at = placed at (headOf (drop at f))

@@ -8,7 +8,8 @@ pub use write::put_pad;
 ghost use mathlib.Core.Path.{_≡_};
 ghost use Prim.Native.Nat.{_^_, _<_};
 ghost use lib.ListN.{length, take};
-ghost use Rattle.chunk.specs.Chunk.{endOf, stepAt};
+ghost use Rattle.chunk.specs.Chunk.{endOf};
+ghost use Rattle.chunk.specs.ForCode.{stepAt};
 
 // What stands at a place of the walk.
 pub enum ChunkStep {

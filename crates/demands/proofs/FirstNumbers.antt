@@ -8,7 +8,8 @@ use mathlib.Core.Path.{_≡_, refl}
 use lib.Dec.{eqb}
 use lib.ListN.{length, getD, take, drop}
 use Rattle.refusal.specs.Numbers.{chunkPastForm, chunkTwice, chunkLength, channelValue, recordWrong}
-use Rattle.chunk.specs.Chunk.{itemsFrom, stepAt}
+use Rattle.chunk.specs.Chunk.{itemsFrom}
+use Rattle.chunk.specs.ForCode.{stepAt}
 use Rattle.chunk.specs.declared.ChunkStep.{ChunkStep}
 use Rattle.chunk.specs.declared.ChunkStep.the-variants as chunk-step
 use Rattle.chunk.proofs.ChunkLaws.{at-end, at-refused, at-chunk}

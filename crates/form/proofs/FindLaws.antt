@@ -13,7 +13,8 @@ use mathlib.Core.Option.{Option, none, some}
 use mathlib.Core.Path.{_≡_, refl, sym, ap, _∙_}
 use native.Mathlib.Omega.{arith}
 use Rattle.laws.proofs.Cases.{impossible}
-use Rattle.chunk.specs.Chunk.{Item, chunk, bad, itemsFrom, stepAt}
+use Rattle.chunk.specs.Chunk.{Item, chunk, bad, itemsFrom}
+use Rattle.chunk.specs.ForCode.{stepAt}
 use Rattle.chunk.specs.declared.ChunkStep.{ChunkStep}
 use Rattle.chunk.specs.declared.ChunkStep.the-variants.{Chunk, Refused, End}
 use Rattle.chunk.proofs.ChunkLaws.{Whole, at-chunk, at-end, at-refused}

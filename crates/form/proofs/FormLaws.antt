@@ -18,7 +18,8 @@ use Rattle.laws.proofs.Cases.{impossible, neither}
 use Rattle.laws.proofs.Table.{below}
 use Rattle.refusal.specs.Numbers.{chunkPastForm, chunkTwice, chunkLength, channelValue}
 use Rattle.field.specs.BigEndian.{bigEndian}
-use Rattle.chunk.specs.Chunk.{Item, chunk, bad, itemsFrom, stepAt}
+use Rattle.chunk.specs.Chunk.{Item, chunk, bad, itemsFrom}
+use Rattle.chunk.specs.ForCode.{stepAt}
 use Rattle.chunk.specs.declared.ChunkStep.the-variants.{Refused}
 use Rattle.chunk.proofs.ChunkLaws.{Whole, step-end, step-past, step-whole, at-refused}
 use Rattle.form.specs.Kind.{names, placeIn, kindOf, least, unit, single, lengthWrong}

@@ -30,7 +30,8 @@ use Rattle.sheet.specs.Voice.{isStereo}
 use Rattle.sheet.specs.declared.judge.Judged.{Judged}
 use Rattle.sheet.specs.declared.judge.Judged.the-variants.{Sound, Refused}
 use Rattle.octaves.specs.Octave.{octavePart, repeatAfter, afterOneShot, repeatStart, partBefore, partFrom, oneShotPart, repeatPart}
-use Rattle.octaves.specs.Part.{partOf, partAt, LiesWithin}
+use Rattle.octaves.specs.Part.{partOf, partAt}
+use Rattle.octaves.specs.ForCode.{LiesWithin}
 use Rattle.octaves.specs.Side.{ofSide, frontPart, voiceSide, sidePart}
 use Rattle.octaves.specs.declared.part.Part.{Part}
 use Rattle.octaves.specs.declared.part.Part.the-variants.{At, Absent}
@@ -148,7 +149,8 @@ side-place : (sheet : List ℕ) (side : Side) (n : ℕ) (p : ℕ × ℕ) → par
 side-place sheet side n p = side-part (λ x. partAt x p ≡ p) n refl (λ m l. ap (λ (k : ℕ). (p .0, k)) (add-zero (p .1))) sheet side
 
 -- the samples ys at q that such a part of the buffer xs at p has
-pub side-told : (sheet : List ℕ) (side : Side) (xs ys : List ℤ) (p q : ℕ × ℕ) (part : Part) → part ≡ sidePart sheet side (length xs) → (ys ≡ partOf part xs) × (q ≡ partAt part p) → (ys ≡ partOf (sidePart sheet side (length xs)) xs) × (q ≡ p)
+pub side-told : (sheet : List ℕ) (side : Side) (xs ys : List ℤ) (p q : ℕ × ℕ) (part : Part) → part ≡ sidePart sheet side (length xs)
+    → (ys ≡ partOf part xs) × (q ≡ partAt part p) → (ys ≡ partOf (sidePart sheet side (length xs)) xs) × (q ≡ p)
 side-told sheet side xs ys p q part e has =
     (has .0 ∙ ap (λ (x : Part). partOf x xs) e, has .1 ∙ ap (λ (x : Part). partAt x p) e ∙ side-place sheet side (length xs) p)
 

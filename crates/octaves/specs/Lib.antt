@@ -2,3 +2,4 @@
 pub mod Part
 pub mod Side
 pub mod Octave
+pub mod ForCode

@@ -1,5 +1,5 @@
 -- A part of a slice, by its start and its length.
-use Prim.Native.Nat.{ℕ, _+_, _≤_}
+use Prim.Native.Nat.{ℕ, _+_}
 use mathlib.Core.List.{List, []}
 use lib.IntN.{ℤ}
 use lib.ListN.{take, drop}
@@ -15,8 +15,3 @@ partOf Absent samples = []
 abbrev pub partAt : Part → ℕ × ℕ → ℕ × ℕ
 partAt (At start n) p = (p .0, p .1 + start)
 partAt Absent p = p
-
--- it lies within so many places
-abbrev pub LiesWithin : Part → ℕ → Type 0
-LiesWithin (At start n) places = start + n ≤ places
-LiesWithin Absent places = Unit

@@ -1,7 +1,8 @@
 // A part of a slice.
 ghost use mathlib.Core.Path.{_≡_};
 ghost use lib.ListN.{length};
-ghost use Rattle.octaves.specs.Part.{partOf, partAt, LiesWithin};
+ghost use Rattle.octaves.specs.Part.{partOf, partAt};
+ghost use Rattle.octaves.specs.ForCode.{LiesWithin};
 
 pub enum Part {
     // Its start and its length.

@@ -39,7 +39,7 @@ outside g h t (bad number ∷ items) = refl
 outside g h t (entry k body ∷ items) = go (eqb k 11) refl
   where
     go : (u : Bool) → eqb k 11 ≡ u
-        → verdict (firstWrong g (entry k body ∷ items)) (textsLeft t (entry k body ∷ items)) ≡ verdict (firstWrong g (entry k body ∷ items)) (allWell t && textsWellFormed (groups 10 11 (entry k body ∷ items)))
+        → let all = entry k body ∷ items in verdict (firstWrong g all) (textsLeft t all) ≡ verdict (firstWrong g all) (allWell t && textsWellFormed (groups 10 11 all))
     go true e = rw (eqb-true k 11 e, lt-ltb g 10 h)
     go false e = ap (verdict (firstWrong g (entry k body ∷ items))) (text-ends t body items k e)
 

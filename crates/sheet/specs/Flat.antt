@@ -8,7 +8,6 @@ use Rattle.small_chunks.specs.Channel.{channelValueOf}
 use Rattle.small_chunks.specs.Pan.{panBytes}
 use Rattle.small_chunks.specs.Envelope.{pointBytes}
 use Rattle.small_chunks.specs.Sequence.{segmentBytes, fadeBytes}
-use Rattle.small_chunks.specs.declared.channel.ChannelAssignment.{ChannelAssignment}
 use Rattle.small_chunks.specs.declared.points.EgPoint.{EgPoint}
 use Rattle.small_chunks.specs.declared.sequence.SeqnSegment.{SeqnSegment}
 use Rattle.sheet.specs.Voice.{Text, Voice}

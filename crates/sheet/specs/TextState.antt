@@ -1,3 +1,4 @@
+-- What the code's helpers ask and give; no reader of the meanings needs it.
 -- Texts judged record by record: how far they are judged, and what a record changes of that.
 use Prim.Native.Nat.{ℕ}
 use lib.Dec.{eqb}

@@ -34,7 +34,7 @@ cut-out s p r at next e h =
     ap (take (next - at)) e ∙ take-at p r (next - at) long
 
 module _ (s : List ℕ) (bytes : (i : ℕ) → Fits w8 (getD s i 0)) (sound : judged s ≡ Sound) where
-  pub places : (attacksAt (readSheet s) ≤ releasesAt (readSheet s)) × (releasesAt (readSheet s) ≤ sequenceAt (readSheet s)) × (sequenceAt (readSheet s) ≤ fadeAt (readSheet s)) × (fadeAt (readSheet s) ≤ length s)
+  pub places : let v = readSheet s in (attacksAt v ≤ releasesAt v) × (releasesAt v ≤ sequenceAt v) × (sequenceAt v ≤ fadeAt v) × (fadeAt v ≤ length s)
   places = places-within (readSheet s) s (sound-flat s bytes sound)
 
   -- ---- what stands between the places

@@ -83,7 +83,8 @@ module _ {A : Type 0} (k : ℕ) (g : A → List ℕ) (other : (a : A) (r : List 
 
 -- ---- a record that may be missing
 
-pub one-there : {A : Type 0} (k n : ℕ) (f : A → List ℕ) → ((a : A) → suc (length (f a)) ≡ n) → (o : Option A) (r : List ℕ) → startsWith k r ≡ false → oneLength k n (ifThere (λ a. k ∷ f a) o ++ r) ≡ length (ifThere (λ a. k ∷ f a) o)
+pub one-there : {A : Type 0} (k n : ℕ) (f : A → List ℕ) → ((a : A) → suc (length (f a)) ≡ n)
+    → (o : Option A) (r : List ℕ) → startsWith k r ≡ false → oneLength k n (ifThere (λ a. k ∷ f a) o ++ r) ≡ length (ifThere (λ a. k ∷ f a) o)
 one-there k n f size none r h = rw h
 one-there k n f size (some a) r h = rw (eq-eqb k k refl) (sym (size a))
 

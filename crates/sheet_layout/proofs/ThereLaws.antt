@@ -55,7 +55,8 @@ module _ {A : Type 0} (k : ℕ) (f : A → List ℕ) where
   }
 
 -- where what is written reads back
-pub present-read : {A : Type 0} {f : A → List ℕ} {o : Option A} {at : ℕ} {s rest : List ℕ} (of : List ℕ → A) (P : A → Type 0) → ((a : A) (r : List ℕ) → P a → of (f a ++ r) ≡ a) → Present f o at s rest → IfThere P o → o ≡ some (of (drop (at + 1) s))
+pub present-read : {A : Type 0} {f : A → List ℕ} {o : Option A} {at : ℕ} {s rest : List ℕ} (of : List ℕ → A) (P : A → Type 0)
+    → ((a : A) (r : List ℕ) → P a → of (f a ++ r) ≡ a) → Present f o at s rest → IfThere P o → o ≡ some (of (drop (at + 1) s))
 present-read {rest = rest} of P back p h =
     p .is ∙ ap some (sym (ap of (p .body) ∙ back (p .value) rest (subst (λ x. IfThere P x) (p .is) h)))
 

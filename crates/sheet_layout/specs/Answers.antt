@@ -1,5 +1,5 @@
+-- What the code's helpers ask and give; no reader of the meanings needs it.
 -- What may be missing in a voice, as the code answers it.
-use Prim.Native.Nat.{ℕ}
 use mathlib.Core.List.{List}
 use mathlib.Core.Option.{Option, none, some}
 use lib.ListN.{length}

@@ -1,7 +1,7 @@
+-- What the code's helpers ask and give; no reader of the meanings needs it.
 -- Where the parts of a voice begin in its flat form.
-use Prim.Native.Nat.{ℕ, _+_, _-_, _/_}
-use mathlib.Core.List.{List, [], _∷_}
-use mathlib.Core.Option.{Option, none, some}
+use Prim.Native.Nat.{ℕ, _+_}
+use mathlib.Core.List.{[], _∷_}
 use lib.ListN.{length}
 use Rattle.laws.specs.Walk.{each}
 use Rattle.small_chunks.specs.Channel.{channelValueOf}

@@ -1,3 +1,4 @@
+-- What the code's helpers ask and give; no reader of the meanings needs it.
 -- The members of a part of the sheet, read off its bytes: the points of its envelopes, or the segments of its sequence.
 use Prim.Native.Nat.{ℕ, suc, _+_, _-_}
 use mathlib.Core.Bool.{cond}

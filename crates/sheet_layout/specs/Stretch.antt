@@ -1,3 +1,4 @@
+-- What the code's helpers ask and give; no reader of the meanings needs it.
 -- The records at the front of the bytes: whether the first is of a kind, and how many bytes a run of groups takes.
 use Prim.Native.Nat.{ℕ, _+_, _-_}
 use lib.Dec.{eqb}

@@ -25,7 +25,8 @@ use Rattle.form.specs.Names.{vhdr, pan, atak, rlse, fade}
 use Rattle.form.proofs.FormLaws.{size-least, first-sound}
 use Rattle.sheet.specs.Flat.{ifThere, flat}
 use Rattle.sheet.specs.Read.{mapOption, bodyOf}
-use Rattle.sheet_read.specs.FormVoice.{formVoice, isSome, Readable}
+use Rattle.sheet_read.specs.FormVoice.{formVoice}
+use Rattle.sheet_read.specs.ForCode.{isSome, Readable}
 use Rattle.sheet_read.specs.Parts.{recordPart, channelPart, envelopePart, segmentsPart, textPart}
 use Rattle.sheet_read.proofs.ItemLaws.{Payloads, payloads, first-payload}
 use Rattle.sheet_read.proofs.PlaceLaws.{least-of}

@@ -25,7 +25,8 @@ use Rattle.text.proofs.Theorems.{clean-well-formed, clean-tidy}
 use Rattle.sheet.specs.Allowed.{All, IfThere, PanFits, PointFits, SegmentFits, FadeFits, TextAllowed, Allowed}
 use Rattle.sheet.specs.Flat.{flat}
 use Rattle.sheet.specs.Read.{mapOption, bodyOf}
-use Rattle.sheet_read.specs.FormVoice.{textKey, formVoice, Readable}
+use Rattle.sheet_read.specs.FormVoice.{textKey, formVoice}
+use Rattle.sheet_read.specs.ForCode.{Readable}
 use Rattle.sheet_read.proofs.BoundLaws.{record-bound, channel-bound, envelope-bound, sequence-bound, texts-bound}
 use Rattle.sheet_read.proofs.CleanLaws.{clean-bytes}
 use Rattle.sheet_read.proofs.CutLaws.{parts-fit}

@@ -1,10 +1,7 @@
 -- The voice that a FORM's chunks say.
-use Prim.Native.Nat.{ℕ, zero, suc, _^_, _<_}
-use lib.ListN.{length}
-use mathlib.Core.Bool.{Bool, true, false}
+use Prim.Native.Nat.{ℕ, zero, suc}
 use mathlib.Core.List.{List, [], _∷_, _++_, map}
 use mathlib.Core.Option.{Option, none, some}
-use mathlib.Core.Path.{_≡_}
 use Rattle.field.specs.BigEndian.{bigEndian}
 use Rattle.header.specs.Header.{headerOf}
 use Rattle.small_chunks.specs.Channel.{channelOf}
@@ -12,10 +9,9 @@ use Rattle.small_chunks.specs.Pan.{panOf}
 use Rattle.small_chunks.specs.Envelope.{envelopePoints}
 use Rattle.small_chunks.specs.Sequence.{sequenceSegments, fadeOf}
 use Rattle.small_chunks.specs.declared.channel.ChannelAssignment.{ChannelAssignment}
-use Rattle.chunk.specs.Chunk.{Item, chunk, bad, itemsFrom}
+use Rattle.chunk.specs.Chunk.{Item, chunk, bad}
 use Rattle.form.specs.Names.{vhdr, chan, pan, atak, rlse, seqn, fade, name, auth, anno, copyright, chrs}
 use Rattle.form.specs.Kind.{placeIn}
-use Rattle.form.specs.FirstBad.{firstBad}
 use Rattle.form.specs.Find.{allOf, firstOf}
 use Rattle.text.specs.Text.{clean}
 use Rattle.sheet.specs.Voice.{Text, Voice}
@@ -54,14 +50,3 @@ formVoice items = record {
   fade = mapOption fadeOf (firstOf fade items);
   texts = textsOf items;
 }
-
--- that there is one
-abbrev pub isSome : {A : Type 0} → Option A → Bool
-isSome none = false
-isSome (some a) = true
-
--- a FORM that has no bad chunk and has a VHDR
-pub record Readable (f : List ℕ) : Type 0 where
-  pub sound : firstBad (itemsFrom f 12) ≡ 0
-  pub header : isSome (firstOf vhdr (itemsFrom f 12)) ≡ true
-  pub short : length f < 2 ^ 33

@@ -1,3 +1,4 @@
 -- The meaning of a FORM as a sheet.
 pub mod FormVoice
 pub mod Parts
+pub mod ForCode

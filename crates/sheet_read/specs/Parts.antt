@@ -1,3 +1,4 @@
+-- What the code's helpers ask and give; no reader of the meanings needs it.
 -- The parts of the sheet, each from the chunks that it is made of.
 use Prim.Native.Nat.{ℕ}
 use lib.ListN.{take}

@@ -13,7 +13,8 @@ ghost use lib.ListN.{length};
 ghost use Rattle.laws.specs.Put.{Put};
 ghost use Rattle.chunk.specs.Chunk.{itemsFrom};
 ghost use Rattle.sheet.specs.Flat.{flat};
-ghost use Rattle.sheet_read.specs.FormVoice.{formVoice, Readable};
+ghost use Rattle.sheet_read.specs.FormVoice.{formVoice};
+ghost use Rattle.sheet_read.specs.ForCode.{Readable};
 
 // The whole sheet, from the buffer's front on.
 pub fn put_sheet(form: &[u8], d: &mut [u8]) -> usize

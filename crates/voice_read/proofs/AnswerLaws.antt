@@ -23,7 +23,8 @@ use Rattle.refusal.specs.Outcome.{Outcome, gives, refuses, andThen}
 use Rattle.chunk.specs.Chunk.{itemsFrom}
 use Rattle.form.specs.Find.{firstOf}
 use Rattle.form.specs.Names.{body}
-use Rattle.sheet_read.specs.FormVoice.{formVoice, Readable}
+use Rattle.sheet_read.specs.FormVoice.{formVoice}
+use Rattle.sheet_read.specs.ForCode.{Readable}
 use Rattle.sheet.specs.Flat.{flat}
 use Rattle.sheet.specs.Read.{bodyOf}
 use Rattle.sheet.specs.Voice.{isStereo}

@@ -27,7 +27,8 @@ use Rattle.form.specs.Names.{form, formType, vhdr, body}
 use Rattle.sheet.specs.Read.{bodyOf}
 use Rattle.sheet.specs.Voice.{Voice, isStereo}
 use Rattle.body_read.specs.Sides.{Sides, bodySides}
-use Rattle.sheet_read.specs.FormVoice.{formVoice, isSome, Readable}
+use Rattle.sheet_read.specs.FormVoice.{formVoice}
+use Rattle.sheet_read.specs.ForCode.{isSome, Readable}
 use Rattle.voice_read.specs.ReadVoice.{Reading, withChunk, withSides, readItems, formOf, headRefusal, readVoice}
 
 -- ---- the chunks of a FORM

@@ -24,7 +24,8 @@ use Rattle.form.specs.declared.place.Place.the-variants.{At, Absent}
 use Rattle.form.proofs.FindLaws.{Found}
 use Rattle.sheet.specs.Read.{knownChannel}
 use Rattle.sheet.specs.Voice.{isStereo}
-use Rattle.sheet_read.specs.FormVoice.{formVoice, Readable}
+use Rattle.sheet_read.specs.FormVoice.{formVoice}
+use Rattle.sheet_read.specs.ForCode.{Readable}
 use Rattle.sheet_read.proofs.PlaceLaws.{least-of, least-size}
 
 -- ---- the header

@@ -23,11 +23,15 @@ is-channel-wrong-requires c κs = λ e. rw e at (size-least _ _ (sym (c .before 
 
 returns-3 : tie.Need-returns-3
 unfolding chunkWrong
-returns-3 c = rw (c .before .before .before .before .if1 .left, ← c .before .before .before .is-length-wrong .ensures, c .before .before .if2 .left, ← c .before .is-channel-wrong .ensures, c .if3 .taken)
+returns-3 c =
+    let l = c .before .before in
+    rw (l .before .before .if1 .left, ← l .before .is-length-wrong .ensures, l .if2 .left, ← c .before .is-channel-wrong .ensures, c .if3 .taken)
 
 returns-4 : tie.Need-returns-4
 unfolding chunkWrong
-returns-4 c = rw (c .before .before .before .before .if1 .left, ← c .before .before .before .is-length-wrong .ensures, c .before .before .if2 .left, ← c .before .is-channel-wrong .ensures, c .if3 .left)
+returns-4 c =
+    let l = c .before .before in
+    rw (l .before .before .if1 .left, ← l .before .is-length-wrong .ensures, l .if2 .left, ← c .before .is-channel-wrong .ensures, c .if3 .left)
 
 pub chunk-wrong-spec : {M : Type 1} → statement M
 chunk-wrong-spec =

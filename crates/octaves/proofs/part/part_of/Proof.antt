@@ -7,7 +7,7 @@ use native.Mathlib.Omega.{arith}
 use lib.ListN.{length, take, drop}
 use denote.Ref.{now}
 use borrow.Author.Needs.{needs}
-use Rattle.octaves.specs.Part.{LiesWithin}
+use Rattle.octaves.specs.ForCode.{LiesWithin}
 use Rattle.octaves.proofs.part.part_of.Statement.{statement}
 use Rattle.octaves.proofs.part.part_of.Tie as tie
 

@@ -9,7 +9,7 @@ use Rattle.chunk.specs.Chunk.{itemsFrom}
 use Rattle.form.specs.Find.{firstOf}
 use Rattle.form.specs.FirstBad.{firstBad}
 use Rattle.form.specs.Names.{vhdr}
-use Rattle.sheet_read.specs.FormVoice.{isSome}
+use Rattle.sheet_read.specs.ForCode.{isSome}
 use Rattle.voice_read.specs.Parsed.{neededBy}
 use Rattle.voice_read.specs.declared.chunks.Parsed.the-variants.{Refused}
 use Rattle.voice_read.proofs.ReadLaws.{items-bad, items-headless, items-bodiless, items-whole}

@@ -4,7 +4,7 @@ use borrow.Author.Needs.{needs}
 use mathlib.Core.Bool.{not}
 use mathlib.Core.Path.{ap}
 use Rattle.form.proofs.FindLaws.{found}
-use Rattle.sheet_read.specs.FormVoice.{isSome}
+use Rattle.sheet_read.specs.ForCode.{isSome}
 use Rattle.voice_read.proofs.chunks.is_missing.Statement.{statement}
 use Rattle.voice_read.proofs.chunks.is_missing.Tie as tie
 
