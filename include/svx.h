@@ -75,7 +75,7 @@ uint32_t svx_encode_voice(const uint8_t *sheet, size_t sheet_len, const int8_t *
  * calls give the same frames, however the frames are cut into blocks. */
 
 /* step: 65,536 is one sample a frame; rate is the output's, in frames a second; frames is how many were filled. key_up is the frame of the
- * key-up, and 0 while the note is held: of a note handed in with released false it is ignored, and it comes back as 0. */
+ * key-up, and 0 while the note is held: of a note handed in with released false it is ignored, and it comes back as 0, from every call. */
 typedef struct {
     uint8_t octave;
     uint32_t step;
@@ -101,7 +101,8 @@ SvxNote svx_note_start(uint8_t octave, uint32_t step, uint32_t rate);
 SvxNote svx_note_key_up(SvxNote note);
 
 /* Fills a buffer with the next frames of a note on a voice, left and right 16-bit values by turns; out_len counts places, two a frame.
- * Refused by 15 to 17, then 10, 13, 18, 21 to 25, 31 to 34 in that order; then the note comes back as it was. */
+ * Refused by 15 to 17, then 10, 13, 18, 21 to 25, 31 to 34 in that order; then the note comes back as it was given, but that of a held
+ * note key_up comes back as 0. */
 SvxFilled svx_note_fill(SvxNote note, const uint8_t *sheet, size_t sheet_len, const int8_t *left, size_t left_len, const int8_t *right,
                         size_t right_len, int16_t *out, size_t out_len);
 
