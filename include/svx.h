@@ -6,19 +6,37 @@
  * A function that can be refused returns 0 or the refusal's number. A refused call writes nothing: no buffer, and no place for a
  * length. Of an accepted one, what lies past the output in a buffer is kept.
  *
- *  1 file under 12 bytes             8 no VHDR                              15 sheet ends inside a record
- *  2 no FORM                         9 no BODY                              16 sheet kind, order or value wrong, or no header
- *  3 form type not 8SVX             10 compression above 1                  17 text not UTF-8
- *  4 chunk runs past the FORM       11 Fibonacci BODY of two channels has   18 sample lengths don't suit the sheet
- *  5 second VHDR, CHAN, PAN, SEQN,     an odd length                        19 FORM length over 4,294,967,295
- *    FADE or BODY                   12 Fibonacci channel under 2 bytes      20 output buffer too short
- *  6 chunk length wrong             13 octave total over 2^64 - 1
- *  7 CHAN not 2, 4 or 6             14 channel shorter than its octaves
- *
- * Of a fill:
- * 21 SEQN segment invalid           24 sequence over 4,294,967,295 samples  32 step 0 or above 16,777,216
- * 22 SEQN with one-shot not 0       25 odd number of places                33 rate 0 or above 192,000
- * 23 FADE names no segment          31 octave absent                       34 key-up frame later than the frames filled
+ * refusals.txt { written by tools/refusals.sh
+ *  1  the file is shorter than 12 bytes
+ *  2  the file doesn't begin with FORM
+ *  3  the FORM's type isn't 8SVX
+ *  4  a chunk runs past the FORM
+ *  5  a second VHDR, CHAN, PAN, SEQN, FADE or BODY
+ *  6  a chunk's length is wrong
+ *  7  CHAN isn't 2, 4 or 6
+ *  8  there is no VHDR
+ *  9  there is no BODY
+ * 10  the compression is neither 0 nor 1
+ * 11  a Fibonacci BODY of two channels has an odd length
+ * 12  a Fibonacci channel is shorter than 2 bytes
+ * 13  the octaves have more samples than 64 bits can count
+ * 14  a channel is shorter than its octaves
+ * 15  the sheet ends inside a record
+ * 16  a record's kind, order or value is wrong, or the sheet has no header
+ * 17  a text isn't UTF-8
+ * 18  the sample lengths don't suit the header and CHAN
+ * 19  the FORM would be longer than 4,294,967,295 bytes
+ * 20  an output buffer is too short
+ * 21  a SEQN segment isn't on multiples of 4, runs backwards or ends past the highest octave
+ * 22  there is a SEQN beside a one-shot part
+ * 23  FADE names a segment that isn't there
+ * 24  the sequence is longer than 4,294,967,295 samples
+ * 25  the buffer to fill has an odd number of places
+ * 31  the voice has no such octave
+ * 32  the step is 0 or above 16,777,216
+ * 33  the output rate is 0 or above 192,000
+ * 34  the key-up frame is later than the frames filled
+ * } refusals.txt
  */
 #ifndef SVX_H
 #define SVX_H
@@ -57,7 +75,7 @@ uint32_t svx_encode_voice(const uint8_t *sheet, size_t sheet_len, const int8_t *
  * calls give the same frames, however the frames are cut into blocks. */
 
 /* step: 65,536 is one sample a frame; rate is the output's, in frames a second; frames is how many were filled. key_up is the frame of the
- * key-up, and 0 while the note is held: of a note handed in with released false it is ignored, and it comes back as 0. */
+ * key-up, and 0 while the note is held: of a note handed in with released false it is ignored, and it comes back as 0, from every call. */
 typedef struct {
     uint8_t octave;
     uint32_t step;
@@ -83,7 +101,8 @@ SvxNote svx_note_start(uint8_t octave, uint32_t step, uint32_t rate);
 SvxNote svx_note_key_up(SvxNote note);
 
 /* Fills a buffer with the next frames of a note on a voice, left and right 16-bit values by turns; out_len counts places, two a frame.
- * Refused by 15 to 17, then 10, 13, 18, 21 to 25, 31 to 34 in that order; then the note comes back as it was. */
+ * Refused by 15 to 17, then 10, 13, 18, 21 to 25, 31 to 34 in that order; then the note comes back as it was given, but that of a held
+ * note key_up comes back as 0. */
 SvxFilled svx_note_fill(SvxNote note, const uint8_t *sheet, size_t sheet_len, const int8_t *left, size_t left_len, const int8_t *right,
                         size_t right_len, int16_t *out, size_t out_len);
 
@@ -187,35 +206,37 @@ __attribute__((unused)) /* clang would warn where this header is compiled by its
 static inline const char *svx_refusal_text(uint32_t number) {
     switch (number) {
     case 0: return "accepted";
-    case 1: return "the file is under 12 bytes";
-    case 2: return "no FORM";
-    case 3: return "the form type isn't 8SVX";
+    /* refusals.txt { written by tools/refusals.sh */
+    case 1: return "the file is shorter than 12 bytes";
+    case 2: return "the file doesn't begin with FORM";
+    case 3: return "the FORM's type isn't 8SVX";
     case 4: return "a chunk runs past the FORM";
     case 5: return "a second VHDR, CHAN, PAN, SEQN, FADE or BODY";
     case 6: return "a chunk's length is wrong";
     case 7: return "CHAN isn't 2, 4 or 6";
-    case 8: return "no VHDR";
-    case 9: return "no BODY";
-    case 10: return "the compression is above 1";
+    case 8: return "there is no VHDR";
+    case 9: return "there is no BODY";
+    case 10: return "the compression is neither 0 nor 1";
     case 11: return "a Fibonacci BODY of two channels has an odd length";
-    case 12: return "a Fibonacci channel is under 2 bytes";
-    case 13: return "the octaves' total is over 2^64 - 1";
+    case 12: return "a Fibonacci channel is shorter than 2 bytes";
+    case 13: return "the octaves have more samples than 64 bits can count";
     case 14: return "a channel is shorter than its octaves";
     case 15: return "the sheet ends inside a record";
-    case 16: return "the sheet's kind, order or value is wrong, or it has no header";
+    case 16: return "a record's kind, order or value is wrong, or the sheet has no header";
     case 17: return "a text isn't UTF-8";
-    case 18: return "the sample lengths don't suit the sheet";
-    case 19: return "the FORM length is over 4,294,967,295";
+    case 18: return "the sample lengths don't suit the header and CHAN";
+    case 19: return "the FORM would be longer than 4,294,967,295 bytes";
     case 20: return "an output buffer is too short";
-    case 21: return "a SEQN segment is invalid";
-    case 22: return "a SEQN beside a one-shot part";
-    case 23: return "FADE names no segment";
-    case 24: return "the sequence is over 4,294,967,295 samples";
-    case 25: return "an odd number of places in the fill buffer";
-    case 31: return "the octave is absent";
+    case 21: return "a SEQN segment isn't on multiples of 4, runs backwards or ends past the highest octave";
+    case 22: return "there is a SEQN beside a one-shot part";
+    case 23: return "FADE names a segment that isn't there";
+    case 24: return "the sequence is longer than 4,294,967,295 samples";
+    case 25: return "the buffer to fill has an odd number of places";
+    case 31: return "the voice has no such octave";
     case 32: return "the step is 0 or above 16,777,216";
-    case 33: return "the rate is 0 or above 192,000";
+    case 33: return "the output rate is 0 or above 192,000";
     case 34: return "the key-up frame is later than the frames filled";
+    /* } refusals.txt */
     default: return "unknown refusal";
     }
 }

@@ -1,28 +1,7 @@
-//! The library's C interface, as include/svx.h has it.
+//! The library's C interface over slices, with a check that a refused call writes no length.
+pub use crate::c::{Note, Part, Record};
+use crate::c::*;
 use crate::plain_note;
-
-#[repr(C)]
-#[derive(Clone, Copy, Debug, PartialEq)]
-pub struct Frequency { pub known: bool, pub hertz: f64 }
-#[repr(C)]
-#[derive(Clone, Copy, Debug, PartialEq)]
-pub struct Pan { pub left: f32, pub right: f32 }
-#[repr(C)]
-#[derive(Clone, Copy, Debug, PartialEq)]
-pub struct Peak { pub found: bool, pub magnitude: u8, pub place: u64 }
-#[repr(C)]
-#[derive(Clone, Copy, Debug, PartialEq)]
-pub struct Part { pub there: bool, pub start: u64, pub length: u64 }
-#[repr(C)]
-#[derive(Clone, Copy, Debug, PartialEq)]
-pub struct Record { pub step: u8, pub kind: u8, pub start: u64, pub next: u64 }
-
-#[repr(C)]
-#[derive(Clone, Copy, Debug)]
-pub struct Note { pub octave: u8, pub step: u32, pub rate: u32, pub frames: u32, pub released: bool, pub key_up: u32 }
-#[repr(C)]
-#[derive(Clone, Copy, Debug)]
-pub struct Filled { pub refusal: u32, pub sounding: u64, pub note: Note }
 
 impl Note {
     pub fn of(n: plain_note::Note) -> Self {
@@ -31,34 +10,6 @@ impl Note {
     pub fn plain(self) -> plain_note::Note {
         plain_note::Note { octave: self.octave, step: self.step, rate: self.rate, frames: self.frames, key_up: if self.released { Some(self.key_up) } else { None } }
     }
-}
-
-extern "C" {
-    fn svx_note_start(octave: u8, step: u32, rate: u32) -> Note;
-    fn svx_note_key_up(note: Note) -> Note;
-    fn svx_note_fill(note: Note, sheet: *const u8, sheet_len: usize, left: *const i8, left_len: usize, right: *const i8, right_len: usize,
-        out: *mut i16, out_len: usize) -> Filled;
-    fn svx_voice_lengths(file: *const u8, file_len: usize, lengths: *mut u64) -> u32;
-    fn svx_parse_voice(file: *const u8, file_len: usize, sheet: *mut u8, sheet_len: usize, left: *mut i8, left_len: usize,
-        right: *mut i8, right_len: usize, lengths: *mut u64) -> u32;
-    fn svx_file_length(sheet: *const u8, sheet_len: usize, left: *const i8, left_len: usize, right: *const i8, right_len: usize,
-        length: *mut u64) -> u32;
-    fn svx_encode_voice(sheet: *const u8, sheet_len: usize, left: *const i8, left_len: usize, right: *const i8, right_len: usize,
-        file: *mut u8, file_len: usize, length: *mut u64) -> u32;
-    fn svx_decode_body(body: *const u8, body_len: usize, compression: u8, channels: u16, frames: u64, out: *mut u8, out_len: usize,
-        length: *mut u64) -> u32;
-    fn svx_fibonacci_decode_channel(body: *const u8, body_len: usize, out: *mut i8, out_len: usize, length: *mut u64) -> u32;
-    fn svx_fibonacci_encode_channel(samples: *const i8, samples_len: usize, out: *mut u8, out_len: usize, length: *mut u64) -> u32;
-    fn svx_sheet_record(sheet: *const u8, sheet_len: usize, at: u64) -> Record;
-    fn svx_sheet_judge(sheet: *const u8, sheet_len: usize) -> u32;
-    fn svx_hi_cycle_frequency_hz(rate: u16, samples_per_cycle: u32) -> Frequency;
-    fn svx_pan_weights(position: i32) -> Pan;
-    fn svx_volume_f32(volume: u32) -> f32;
-    fn svx_peak(samples: *const i8, samples_len: usize) -> Peak;
-    fn svx_level_at_ms(points: *const u8, points_len: usize, start: i32, t_ms: u64) -> i32;
-    fn svx_octave_samples(one_shot: u32, repeat: u32, octaves: u8, k: u8) -> Part;
-    fn svx_loop_repeat(one_shot: u32, repeat: u32, octaves: u8, k: u8, octave_len: u64) -> Part;
-    fn svx_side_samples(sheet: *const u8, sheet_len: usize, left_len: u64, right_len: u64, right: bool) -> Part;
 }
 
 /// What a place for a length holds before a call: a refused call leaves it.

@@ -32,12 +32,22 @@ pub fn sayable(v: &oracle::svx::Voice) -> bool {
     v.channels.iter().all(right) && said
 }
 
-/// Both refuse; the original has no rule of its own for a total past 64 bits when it writes.
-fn same_rule(want: u32, got: u32) -> bool { want == got || (want == 18 && got == 13) }
+/// The octaves' total doesn't fit 64 bits.
+fn overflows(h: &oracle::svx::VoiceHeader) -> bool {
+    let hi = h.one_shot_hi_samples as u128 + h.repeat_hi_samples as u128;
+    let octaves = h.ct_octave.max(1) as u32;
+    hi > 0 && (octaves > 64 || hi * ((1u128 << octaves) - 1) > u64::MAX as u128)
+}
+
+/// Both refuse, by the same rule. The original has none of its own for a total past 64 bits when it writes and refuses the octaves' lengths
+/// (18): there, and only there, the library answers 13.
+fn same_rule(h: &oracle::svx::VoiceHeader, want: u32, got: u32) -> bool {
+    if want == 18 && overflows(h) { got == 13 } else { want == got && got != 13 }
+}
 
 pub fn run(n: u64, seed: u64) {
     let mut counts = [0u64; 21];
-    let (mut skipped, mut back) = (0u64, 0u64);
+    let (mut skipped, mut back, mut overflowing) = (0u64, 0u64, 0u64);
     let mut r = make::Rng::new(seed ^ 0xE7C0DE);
     let mut done = 0;
     while done < n {
@@ -51,13 +61,14 @@ pub fn run(n: u64, seed: u64) {
         let (want, got) = (rust_side::encode(&v), library(&s, &a, &b));
         let agree = match (&want, &got) {
             (Ok(x), Ok(y)) => x == y,
-            (Err(x), Err(y)) => same_rule(*x, *y),
+            (Err(x), Err(y)) => same_rule(&v.header, *x, *y),
             _ => false,
         };
         if !agree {
             println!("voice {done} of seed {seed} differs\n  sheet {s:02X?}\n  left {a:?}\n  right {b:?}\n  original {want:02X?}\n  library {got:02X?}");
             std::process::exit(1);
         }
+        overflowing += overflows(&v.header) as u64;
         match got {
             Err(k) => counts[k as usize] += 1,
             Ok(file) => {
@@ -73,6 +84,8 @@ pub fn run(n: u64, seed: u64) {
     println!("encode: {n} voices of seed {seed}, no difference; {} written, {back} of them raw and tidy and the same after reading; refused by number:", counts[0]);
     let by: Vec<String> = (1..21).filter(|k| counts[*k] > 0).map(|k| format!("{k}: {}", counts[k])).collect();
     println!("  {}; left out, as the flat form can't say them: {skipped}", by.join(", "));
+    println!("  a total past 64 bits: {overflowing} voices, {} refused by 13 where the original says 18, the others by 10", counts[13]);
+    assert!(counts[13] <= overflowing && overflowing <= counts[13] + counts[10], "a voice whose total is past 64 bits was written");
 }
 
 fn tidy(v: &oracle::svx::Voice) -> bool { v.metadata.iter().all(|(_, t)| !t.is_empty() && !t.contains('\0') && t.trim() == t) }

@@ -11,6 +11,8 @@
 //!     compare rewrite FILE OUT   a file read and written again by the library (for sox.sh)
 mod abi;
 mod bench;
+#[path = "../../host/svx/src/c.rs"]
+mod c;
 mod encode;
 mod files;
 mod list;

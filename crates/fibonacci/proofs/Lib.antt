@@ -6,4 +6,3 @@ pub mod DecodeLaws
 pub mod EncodeLaws
 pub mod Survive
 pub mod Examples
-pub mod ByteLaws

@@ -3,7 +3,6 @@ use crate::pick::fib_pick_nibble;
 use crate::step::fib_step;
 use refusal::Output;
 ghost use mathlib.Core.Path.{_≡_};
-ghost use mathlib.Core.List.{_∷_, []};
 ghost use Prim.Native.Nat.{_+_, _/_, _≤_};
 ghost use lib.ListN.{length};
 ghost use Rattle.laws.specs.Buffer.{written};

@@ -94,11 +94,6 @@ bytes-take (suc n) (b ∷ l) h (suc i) = bytes-take n l (bytes-tail b l h) i
 pub bytes-drop : (n : ℕ) (l : List ℕ) → Bytes l → Bytes (drop n l)
 bytes-drop n l h i = rw getD-drop (h (n + i))
 
-pub bytes-append : (l m : List ℕ) → Bytes l → Bytes m → Bytes (l ++ m)
-bytes-append [] m h k i = k i
-bytes-append (b ∷ l) m h k zero = h 0
-bytes-append (b ∷ l) m h k (suc i) = bytes-append l m (bytes-tail b l h) k i
-
 pub number-fits : (n : ℕ) (l : List ℕ) → Bytes l → bigEndian n l < 256 ^ n
 number-fits zero l h = rw (number-none l) (omega arith)
 number-fits (suc n) l h = rw (number-suc n l, pow-suc 256 n) (omega (arith, h n, number-fits n l h))

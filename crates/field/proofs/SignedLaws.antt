@@ -10,7 +10,7 @@ use lib.IntN.{ℤ, pos, negsuc, natAbs}
 use lib.Signed.{mag, ltZ, nonNeg}
 use mir.Syntax.{Width, w8, w16, w32, w64, w128}
 use mir.Val.{Fits, SFits, bits, hbits, sel, toZ, ofZ}
-use mir.Facts.{toZ-ofZ, ofZ-toZ, fits-ofZ}
+use mir.Facts.{toZ-ofZ, ofZ-toZ}
 use mir.ValLaws.{half-full}
 use Rattle.laws.proofs.Signed.{zarith, known, abs-parts, not-neg, nonNeg-of}
 use Rattle.field.specs.Signed.{twosComplement, twosComplementBits, sampleOf, byteOf}
@@ -37,9 +37,6 @@ bits-are w16 (negsuc n) = refl
 bits-are w32 (negsuc n) = refl
 bits-are w64 (negsuc n) = refl
 bits-are w128 (negsuc n) = refl
-
-pub bits-below : (w : Width) (s : ℤ) → SFits w s → twosComplementBits (2 ^ hbits w) s < 2 ^ bits w
-bits-below w s f = rw (← bits-are w s) (fits-ofZ f .fits)
 
 -- the round trips
 pub signed-bits : (w : Width) (s : ℤ) → SFits w s → twosComplement (2 ^ hbits w) (twosComplementBits (2 ^ hbits w) s) ≡ s

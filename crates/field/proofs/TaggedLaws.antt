@@ -1,18 +1,15 @@
--- The laws of `parts` and `tagged`: their parts one by one, and the length of `tagged`. No proof elsewhere unfolds them.
+-- The laws of `parts` and `tagged`: their parts one by one. No proof elsewhere unfolds them.
 -- Assumes nothing.
-use Prim.Native.Nat.{ℕ, suc, _+_, _-_, _*_, _≤_, _<_, min, zero-le}
-use borrow.Author.Tests.{lt-ltb, le-ltb, ltb-false}
-use lib.Dec.{ltb}
-use lib.ListN.{length, take, drop, length-drop, length-take}
+use Prim.Native.Nat.{ℕ, suc, _+_, _-_, _≤_, _<_}
+use borrow.Author.Tests.{lt-ltb, le-ltb}
+use lib.ListN.{length, take, drop, length-drop}
 use lib.Seq.{drop-drop}
-use mathlib.Core.Bool.{Bool, true, false, cond}
 use mathlib.Core.List.{List, [], _∷_, _++_}
-use mathlib.Core.Path.{_≡_, refl, ap, _∙_}
-use native.Mathlib.Nat.{sub-zero}
+use mathlib.Core.Path.{_≡_, ap, _∙_}
 use native.Mathlib.Omega.{arith}
 use Rattle.field.specs.Tagged.{firstPart, parts, firstTagged, tagged}
-use Rattle.laws.specs.Walk.{more, last, each}
-use Rattle.laws.proofs.WalkLaws.{walk-more, walk-last, walk-bound}
+use Rattle.laws.specs.Walk.{last, each}
+use Rattle.laws.proofs.WalkLaws.{walk-more, walk-last}
 
 module _ (n : ℕ) (pos : 0 < n) where
   no-part : firstPart n [] ≡ last []
@@ -50,24 +47,3 @@ module _ (t n : ℕ) (pos : 0 < n) where
 
   pub tagged-at-end : (s : List ℕ) (i : ℕ) → length s - i < n → tagged t n (drop i s) ≡ []
   tagged-at-end s i h = tagged-end (drop i s) (rw length-drop h)
-
-  pub tagged-bound : (l : List ℕ) → length (tagged t n l) ≤ 2 * length l
-  unfolding tagged
-  tagged-bound l = rw (sub-zero (length l)) at (walk-bound (firstTagged t n) (λ x. x) 2 one end 0 l)
-    where
-      one : (l : List ℕ) (a : List ℕ) (k : ℕ) → firstTagged t n l ≡ more a k → length a ≤ 2 * min (suc k) (length l)
-      one l a k = go (ltb (length l) n) refl
-        where
-          go : (b : Bool) → ltb (length l) n ≡ b → cond b (last []) (more (t ∷ take n l) (n - 1)) ≡ more a k → length a ≤ 2 * min (suc k) (length l)
-          go true p e = let z : _≡_ {A = ℕ} 0 1 = cc in absurd (omega arith)
-          go false p e =
-              let ea : (t ∷ take n l) ≡ a = cc in
-              let ek : n - 1 ≡ k = cc in
-              rw (← ea) (omega (arith, ltb-false (length l) n p, length-take n l))
-
-      end : (l : List ℕ) (xs : List (List ℕ)) → firstTagged t n l ≡ last xs → length (each (λ x. x) xs) ≤ 2 * length l
-      end l xs = go (ltb (length l) n)
-        where
-          go : (b : Bool) → cond b (last []) (more (t ∷ take n l) (n - 1)) ≡ last xs → length (each (λ x. x) xs) ≤ 2 * length l
-          go true e = let ex : [] ≡ xs = cc in rw (← ex) zero-le
-          go false e = let z : _≡_ {A = ℕ} 0 1 = cc in absurd (omega arith)

@@ -1,5 +1,4 @@
 // Stores at a place of a lent buffer.
-ghost use mathlib.Core.Path.{_≡_};
 ghost use mathlib.Core.List.{[], _∷_};
 ghost use Prim.Native.Nat.{suc, _+_, _^_, _<_};
 ghost use lib.ListN.{length};

@@ -1,11 +1,9 @@
 -- How the octaves' lengths add up, when their total is refused, and what the code's factor and quotient are.
 --     octave-next      octave k starts where the ones before it end
 --     octave-end       each octave ends within the total
---     total-refused    the total is refused exactly if it is 2 ^ 64 or more
 -- Assumes nothing.
 use Prim.Native.Nat.{ℕ, _+_, _-_, _*_, _/_, _%_, _^_, _≤_, _<_, min}
 use mathlib.Core.Bool.{Bool, true, false, cond}
-use mathlib.Core.Logic.{_↔_}
 use mathlib.Core.Path.{_≡_, refl, sym, ap, ap₂, _∙_}
 use native.Mathlib.Nat.{mul-add, pow-suc, zero-mul, mul-le-mul, mul-le-mul-left, le-div-iff-mul-le, div-lt-iff-lt-mul}
 use native.Mathlib.Numerals.{add-one}
@@ -49,13 +47,6 @@ total-sum h l = rw (lt-ltb (totalSamples h) (2 ^ 64) l)
 
 pub total-large : (h : VoiceHeader) → 2 ^ 64 ≤ totalSamples h → total h ≡ Refused octaveTotal
 total-large h l = rw (le-ltb (totalSamples h) (2 ^ 64) l)
-
-pub total-refused : (h : VoiceHeader) → (total h ≡ Refused octaveTotal) ↔ (2 ^ 64 ≤ totalSamples h)
-total-refused h = (from (ltb (totalSamples h) (2 ^ 64)) refl, total-large h)
-  where
-    from : (b : Bool) → ltb (totalSamples h) (2 ^ 64) ≡ b → cond b (Sum (totalSamples h)) (Refused octaveTotal) ≡ Refused octaveTotal → 2 ^ 64 ≤ totalSamples h
-    from true e r = let z : _≡_ {A = ℕ} 0 1 = cc in absurd (omega arith)
-    from false e r = ltb-false (totalSamples h) (2 ^ 64) e
 
 pub total-none : (h : VoiceHeader) → hi h ≡ 0 → total h ≡ Sum 0
 unfolding totalSamples

@@ -1,7 +1,6 @@
 -- A loop that writes a buffer from its front: after i turns the buffer holds `take i want ++ drop i d`, where `want` is what the
 -- loop writes in the end and d what the buffer held.
 --     prefix-store, prefix-next     one store more, of want's next element
---     prefix-length                 the buffer's length is that of d
 --     prefix-whole, prefix-part     in the end: all of want, or its first n elements, and past them what d held
 --     prefix-map, prefix-map-whole  where want is f of each element of a list
 -- Assumes nothing.
@@ -11,7 +10,7 @@ use Prim.Native.Nat.{ℕ, zero, suc, _+_, _-_, _≤_, _<_}
 use native.Mathlib.Nat.{sub-zero, suc-sub-suc}
 use native.Mathlib.Numerals.{add-one}
 use native.Mathlib.Omega.{arith}
-use lib.ListN.{length, take, drop, set, getD, length-append, length-drop, length-map, List·getD-map}
+use lib.ListN.{length, take, drop, set, getD, length-drop, length-map, List·getD-map}
 use lib.Seq.{drop-cons, set-at, take-suc, take-length, length-take-le}
 use Rattle.laws.specs.Buffer.{written}
 
@@ -44,9 +43,6 @@ module _ {A : Type 0} where
   -- the same where want is known by what is left of it
   pub prefix-next : (want rest d out : List A) (i : ℕ) (v : A) → drop i want ≡ v ∷ rest → i < length d → out ≡ take i want ++ drop i d → set out i v ≡ take (i + 1) want ++ drop (i + 1) d
   prefix-next want rest d out i v n hd e = prefix-store want d out i v v (next-within want rest i v n) hd e (next-at want rest i v v n)
-
-  pub prefix-length : (want d : List A) (i : ℕ) → i ≤ length want → i ≤ length d → length (take i want ++ drop i d) ≡ length d
-  prefix-length want d i hw hd = simp (length-append, length-drop, length-take-le i want hw) (omega arith)
 
   pub prefix-whole : (want d : List A) (i : ℕ) → i ≡ length want → take i want ++ drop i d ≡ written want d
   prefix-whole want d i e = rw (e, take-length want)

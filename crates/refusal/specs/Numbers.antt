@@ -1,15 +1,17 @@
 -- The refusals' numbers, by the names that the definitions use.
 use Prim.Native.Nat.{ℕ}
 
--- the file has under 12 bytes
+-- refusals.txt { written by tools/refusals.sh
+
+-- the file is shorter than 12 bytes
 abbrev pub fileShort : ℕ
 fileShort = 1
 
--- no FORM
+-- the file doesn't begin with FORM
 abbrev pub notForm : ℕ
 notForm = 2
 
--- the form type is not 8SVX
+-- the FORM's type isn't 8SVX
 abbrev pub not8svx : ℕ
 not8svx = 3
 
@@ -25,19 +27,19 @@ chunkTwice = 5
 abbrev pub chunkLength : ℕ
 chunkLength = 6
 
--- CHAN is not 2, 4 or 6
+-- CHAN isn't 2, 4 or 6
 abbrev pub channelValue : ℕ
 channelValue = 7
 
--- no VHDR
+-- there is no VHDR
 abbrev pub noHeader : ℕ
 noHeader = 8
 
--- no BODY
+-- there is no BODY
 abbrev pub noBody : ℕ
 noBody = 9
 
--- the compression is above 1
+-- the compression is neither 0 nor 1
 abbrev pub compression : ℕ
 compression = 10
 
@@ -45,11 +47,11 @@ compression = 10
 abbrev pub oddHalves : ℕ
 oddHalves = 11
 
--- a Fibonacci channel has under 2 bytes
+-- a Fibonacci channel is shorter than 2 bytes
 abbrev pub channelShort : ℕ
 channelShort = 12
 
--- the octaves' samples pass 2^64 - 1
+-- the octaves have more samples than 64 bits can count
 abbrev pub octaveTotal : ℕ
 octaveTotal = 13
 
@@ -61,19 +63,19 @@ samplesShort = 14
 abbrev pub recordCut : ℕ
 recordCut = 15
 
--- a record's kind, order or value is wrong, or there is no header
+-- a record's kind, order or value is wrong, or the sheet has no header
 abbrev pub recordWrong : ℕ
 recordWrong = 16
 
--- a text is not UTF-8
+-- a text isn't UTF-8
 abbrev pub textIllFormed : ℕ
 textIllFormed = 17
 
--- the sample lengths don't suit the sheet
+-- the sample lengths don't suit the header and CHAN
 abbrev pub sampleLengths : ℕ
 sampleLengths = 18
 
--- the FORM length would pass 4,294,967,295
+-- the FORM would be longer than 4,294,967,295 bytes
 abbrev pub formLength : ℕ
 formLength = 19
 
@@ -81,27 +83,27 @@ formLength = 19
 abbrev pub bufferShort : ℕ
 bufferShort = 20
 
--- a SEQN segment is invalid
+-- a SEQN segment isn't on multiples of 4, runs backwards or ends past the highest octave
 abbrev pub segment : ℕ
 segment = 21
 
--- SEQN beside a one-shot part
+-- there is a SEQN beside a one-shot part
 abbrev pub sequenceOneShot : ℕ
 sequenceOneShot = 22
 
--- FADE names no segment
+-- FADE names a segment that isn't there
 abbrev pub fadeSegment : ℕ
 fadeSegment = 23
 
--- the sequence passes 4,294,967,295 samples
+-- the sequence is longer than 4,294,967,295 samples
 abbrev pub sequenceLength : ℕ
 sequenceLength = 24
 
--- a fill buffer has an odd number of places
+-- the buffer to fill has an odd number of places
 abbrev pub oddPlaces : ℕ
 oddPlaces = 25
 
--- the octave is absent
+-- the voice has no such octave
 abbrev pub noOctave : ℕ
 noOctave = 31
 
@@ -116,3 +118,5 @@ rate = 33
 -- the key-up frame is later than the frames filled
 abbrev pub keyUp : ℕ
 keyUp = 34
+
+-- } refusals.txt

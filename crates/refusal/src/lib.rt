@@ -1,14 +1,14 @@
 // Refusals by their numbers, and the answer of an entry that fills one lent buffer.
 
-// Turned back by the input.
+// refusals.txt { written by tools/refusals.sh
 
-// The file has under 12 bytes.
+// The file is shorter than 12 bytes.
 pub const FILE_SHORT: u8 = 1;
 
-// No FORM.
+// The file doesn't begin with FORM.
 pub const NOT_FORM: u8 = 2;
 
-// The form type is not 8SVX.
+// The FORM's type isn't 8SVX.
 pub const NOT_8SVX: u8 = 3;
 
 // A chunk runs past the FORM.
@@ -20,25 +20,25 @@ pub const CHUNK_TWICE: u8 = 5;
 // A chunk's length is wrong.
 pub const CHUNK_LENGTH: u8 = 6;
 
-// CHAN is not 2, 4 or 6.
+// CHAN isn't 2, 4 or 6.
 pub const CHANNEL_VALUE: u8 = 7;
 
-// No VHDR.
+// There is no VHDR.
 pub const NO_HEADER: u8 = 8;
 
-// No BODY.
+// There is no BODY.
 pub const NO_BODY: u8 = 9;
 
-// The compression is above 1.
+// The compression is neither 0 nor 1.
 pub const COMPRESSION: u8 = 10;
 
 // A Fibonacci BODY of two channels has an odd length.
 pub const ODD_HALVES: u8 = 11;
 
-// A Fibonacci channel has under 2 bytes.
+// A Fibonacci channel is shorter than 2 bytes.
 pub const CHANNEL_SHORT: u8 = 12;
 
-// The octaves' samples pass 2^64 - 1.
+// The octaves have more samples than 64 bits can count.
 pub const OCTAVE_TOTAL: u8 = 13;
 
 // A channel is shorter than its octaves.
@@ -47,39 +47,37 @@ pub const SAMPLES_SHORT: u8 = 14;
 // The sheet ends inside a record.
 pub const RECORD_CUT: u8 = 15;
 
-// A record's kind, order or value is wrong, or there is no header.
+// A record's kind, order or value is wrong, or the sheet has no header.
 pub const RECORD_WRONG: u8 = 16;
 
-// A text is not UTF-8.
+// A text isn't UTF-8.
 pub const TEXT_ILL_FORMED: u8 = 17;
 
-// The sample lengths don't suit the sheet.
+// The sample lengths don't suit the header and CHAN.
 pub const SAMPLE_LENGTHS: u8 = 18;
 
-// The FORM length would pass 4,294,967,295.
+// The FORM would be longer than 4,294,967,295 bytes.
 pub const FORM_LENGTH: u8 = 19;
 
 // An output buffer is too short.
 pub const BUFFER_SHORT: u8 = 20;
 
-// A SEQN segment is invalid.
+// A SEQN segment isn't on multiples of 4, runs backwards or ends past the highest octave.
 pub const SEGMENT: u8 = 21;
 
-// SEQN beside a one-shot part.
+// There is a SEQN beside a one-shot part.
 pub const SEQUENCE_ONE_SHOT: u8 = 22;
 
-// FADE names no segment.
+// FADE names a segment that isn't there.
 pub const FADE_SEGMENT: u8 = 23;
 
-// The sequence passes 4,294,967,295 samples.
+// The sequence is longer than 4,294,967,295 samples.
 pub const SEQUENCE_LENGTH: u8 = 24;
 
-// A fill buffer has an odd number of places.
+// The buffer to fill has an odd number of places.
 pub const ODD_PLACES: u8 = 25;
 
-// Turned back by the note's state.
-
-// The octave is absent.
+// The voice has no such octave.
 pub const NO_OCTAVE: u8 = 31;
 
 // The step is 0 or above 16,777,216.
@@ -90,6 +88,8 @@ pub const RATE: u8 = 33;
 
 // The key-up frame is later than the frames filled.
 pub const KEY_UP: u8 = 34;
+
+// } refusals.txt
 
 // How much of a lent buffer was written, or why nothing was.
 pub enum Output {

@@ -1,9 +1,8 @@
--- The largest magnitude of one sample more, and its law: no sample has a larger one.
+-- The largest magnitude of one sample more.
 -- Assumes nothing.
 use mathlib.Core.Path.{_≡_}
 use mathlib.Core.List.{List, [], _∷_, _++_}
-use Prim.Native.Nat.{ℕ, zero, suc, _+_, _≤_, _<_, max}
-use native.Mathlib.Nat.{not-suc-le-zero, le-of-suc-le-suc}
+use Prim.Native.Nat.{ℕ, _+_, _<_, max}
 use native.Mathlib.Numerals.{add-one}
 use native.Mathlib.Omega.{arith}
 use lib.IntN.{ℤ, pos, natAbs}
@@ -18,9 +17,3 @@ loudest-snoc (y ∷ l) x = omega (arith, loudest-snoc l x)
 
 pub loudest-more : (l : List ℤ) (i : ℕ) → i < length l → loudest (take (i + 1) l) ≡ max (loudest (take i l)) (natAbs (getD l i (pos 0)))
 loudest-more l i h = rw (add-one, take-suc l i (pos 0) h) (loudest-snoc (take i l) (getD l i (pos 0)))
-
-pub none-louder : (l : List ℤ) (k : ℕ) → k < length l → natAbs (getD l k (pos 0)) ≤ loudest l
-unfolding loudest
-none-louder [] k h = absurd (not-suc-le-zero h)
-none-louder (x ∷ l) zero h = omega arith
-none-louder (x ∷ l) (suc k) h = omega (arith, none-louder l k (le-of-suc-le-suc h))

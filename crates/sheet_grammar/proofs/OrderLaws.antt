@@ -2,7 +2,7 @@
 --     none-wrong         of correct records in order, none is wrong
 --     sheet-accepted     of a sheet of bytes without a wrong record: its records are correct, of bytes, in order, and are the sheet
 -- Assumes nothing.
-use Prim.Native.Nat.{ℕ, _+_, _<_}
+use Prim.Native.Nat.{ℕ, _<_}
 use mathlib.Core.Bool.{Bool, true, false, cond, _||_}
 use mathlib.Core.List.{List, [], _∷_, _++_}
 use mathlib.Core.Path.{_≡_, refl, sym, ap, subst}

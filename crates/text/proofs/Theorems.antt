@@ -4,21 +4,19 @@
 --     clean-same         a payload that is well-formed and tidy is its own text
 --     clean-bound        its text is at most three times as long
 --     clean-len-exact    below 2 ^ 60 bytes `clean_len` answers the length itself
---     records-bytes      the text can be read off its records
 -- Assumes nothing.
 use Prim.Native.Nat.{ℕ, _*_, _^_, _≤_, _<_, min}
 use lib.ListN.{length}
 use mathlib.Core.Bool.{true, _&&_}
-use mathlib.Core.List.{List, [], _∷_}
+use mathlib.Core.List.{List, []}
 use mathlib.Core.Logic.{_⊎_}
-use mathlib.Core.Path.{_≡_, refl, ap}
+use mathlib.Core.Path.{_≡_}
 use native.Mathlib.Omega.{arith}
 use Rattle.text.proofs.LengthLaws.{lossy-bound, trim-bound}
 use Rattle.text.proofs.PlaceLaws.{before-zero-le}
 use Rattle.text.proofs.TidyLaws.{both-left, both-right, before-zero-same, start-same, end-same, zero-free-before-zero, zero-free-lossy, zero-free-trim, trim-tidy}
 use Rattle.text.proofs.TrimLaws.{clean-is}
 use Rattle.text.specs.Text.{beforeZero, trim, clean, zeroFree, firstNotWhite, lastNotWhite, tidy}
-use Rattle.text.specs.TextRecords.{textRecords, recordBytes}
 use Rattle.text_utf8.proofs.SubsequenceLaws.{subsequences-bytes}
 use Rattle.text_utf8.proofs.Theorems.{lossy-well-formed, lossy-same}
 use Rattle.text_utf8.specs.Utf8.{subsequences, lossy, wellFormed}
@@ -45,8 +43,3 @@ clean-bound l = rw clean-is (omega (arith, lossy-bound (trim (beforeZero l)), tr
 
 pub clean-len-exact : (l : List ℕ) → length l < 2 ^ 60 → min (length (clean l)) (2 ^ 62) ≡ length (clean l)
 clean-len-exact l h = omega (arith, clean-bound l)
-
-pub records-bytes : (l : List ℕ) → recordBytes (textRecords l) ≡ l
-unfolding recordBytes textRecords
-records-bytes [] = refl
-records-bytes (b ∷ l) = ap (λ (r : List ℕ). b ∷ r) (records-bytes l)

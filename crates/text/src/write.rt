@@ -3,7 +3,6 @@ use crate::part::cut_at_zero;
 use crate::part::trimmed;
 use text_utf8::Utf8Step;
 use text_utf8::step_at;
-ghost use mathlib.Core.Path.{_≡_};
 ghost use mathlib.Core.List.{[], _∷_};
 ghost use Prim.Native.Nat.{_+_, _^_, _<_};
 ghost use lib.ListN.{length};

@@ -2,18 +2,14 @@
 -- Assumes nothing.
 use Prim.Native.Nat.{ℕ, _+_, _^_, _≤_, _<_}
 use lib.ListN.{length}
-use lib.Seq.{sets-eq}
 use mathlib.Core.List.{List}
 use mathlib.Core.Path.{_≡_, refl, sym, ap, _∙_}
-use native.Mathlib.Nat.{zero-add}
 use native.Mathlib.Omega.{arith}
 use Rattle.field.specs.BigEndian.{Bytes}
 use Rattle.sheet_grammar.proofs.Theorem.{flat-read}
 use Rattle.header.specs.Compression.{knownCompression}
 use Rattle.header.specs.declared.compression.Compression.{Compression}
 use Rattle.header.specs.declared.compression.KnownCompression.the-variants.{Known}
-use Rattle.laws.specs.Buffer.{written}
-use Rattle.laws.specs.Put.{Put}
 use Rattle.refusal.specs.Outcome.{Outcome, gives, refuses}
 use Rattle.refusal.specs.declared.Output.the-variants as output
 use Rattle.sheet.specs.Judge.{judged}

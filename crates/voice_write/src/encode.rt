@@ -10,16 +10,12 @@ use sheet_layout::sheet_stereo;
 use sheet_write::put_chunks;
 ghost use mathlib.Core.Path.{_≡_};
 ghost use lib.ListN.{length};
-ghost use Rattle.laws.specs.Buffer.{written};
 ghost use Rattle.header.specs.Compression.{knownCompression};
 ghost use Rattle.header.specs.declared.compression.KnownCompression.the-variants.{Known};
 ghost use Rattle.refusal.specs.Outcome.{answer, bufferAfter};
-ghost use Rattle.sheet.specs.Judge.{judged};
 ghost use Rattle.sheet.specs.Read.{readSheet};
-ghost use Rattle.sheet.specs.declared.judge.Judged.the-variants.{Sound};
-ghost use Rattle.body_read.specs.Sides.{Sides};
 ghost use Rattle.voice_write.specs.Answers.{Room};
-ghost use Rattle.voice_write.specs.WriteVoice.{contents, fileOf, writeSheet};
+ghost use Rattle.voice_write.specs.WriteVoice.{writeSheet};
 
 // The whole file, n bytes, for a compression that is known.
 fn write_known(sheet: &[u8], c: Compression, left: &[i8], right: &[i8], n: usize, file: &mut [u8])

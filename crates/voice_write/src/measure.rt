@@ -4,7 +4,6 @@ use body_write::body_length;
 use header::Compression;
 use header::KnownCompression;
 use header::Total;
-use header::VoiceHeader;
 use refusal::Output;
 use sheet::Judged;
 use sheet::judge_sheet;
@@ -20,7 +19,7 @@ ghost use Rattle.sheet.specs.Judge.{judged};
 ghost use Rattle.sheet.specs.Read.{readSheet};
 ghost use Rattle.sheet.specs.Voice.{isStereo};
 ghost use Rattle.sheet.specs.declared.judge.Judged.the-variants.{Sound};
-ghost use Rattle.body_read.specs.Sides.{Sides, lengthsSuit};
+ghost use Rattle.body_read.specs.Sides.{lengthsSuit};
 ghost use Rattle.voice_write.specs.Answers.{lengthOf};
 ghost use Rattle.voice_write.specs.WriteVoice.{contents, held32, writeVoice, writeSheet};
 

@@ -67,6 +67,7 @@
 #![deny(unsafe_op_in_unsafe_fn)]
 
 mod bytes;
+mod c;
 mod codec;
 #[allow(unsafe_code)]
 mod ffi;

@@ -1,5 +1,5 @@
 //! A note.
-use crate::ffi;
+use crate::{c, ffi};
 use crate::{Refusal, Sheet};
 
 /// A note that plays a voice. It is a value: each call takes it and gives the note after it, so a copy that was kept
@@ -43,8 +43,8 @@ impl Note {
     }
 
     /// The note as C has it.
-    fn flat(self) -> ffi::Note {
-        ffi::Note {
+    fn flat(self) -> c::Note {
+        c::Note {
             octave: self.octave,
             step: self.step,
             rate: self.rate,
@@ -55,7 +55,7 @@ impl Note {
     }
 
     /// The note that C has.
-    fn of(note: ffi::Note) -> Note {
+    fn of(note: c::Note) -> Note {
         Note {
             octave: note.octave,
             step: note.step,

@@ -15,40 +15,43 @@ use std::fmt;
 #[derive(Clone, Copy, Debug, PartialEq, Eq, Hash)]
 pub struct Refusal(u32);
 
-const WORDS: [(u32, &str); 29] = [
-    (1, "the file is shorter than 12 bytes"),
-    (2, "the file doesn't begin with FORM"),
-    (3, "the FORM's type isn't 8SVX"),
-    (4, "a chunk runs past the FORM"),
-    (5, "a second VHDR, CHAN, PAN, SEQN, FADE or BODY"),
-    (6, "a chunk's length is wrong"),
-    (7, "CHAN is not 2, 4 or 6"),
-    (8, "there is no VHDR"),
-    (9, "there is no BODY"),
-    (10, "the compression is neither 0 nor 1"),
-    (11, "a Fibonacci BODY of two channels has an odd length"),
-    (12, "a Fibonacci channel is shorter than 2 bytes"),
-    (13, "the octaves have more samples than 64 bits can count"),
-    (14, "a channel is shorter than its octaves"),
-    (15, "the sheet ends inside a record"),
-    (16, "the sheet has a wrong kind, order or value, or no header"),
-    (17, "a text is not UTF-8"),
-    (18, "the samples don't suit the header and the channel assignment"),
-    (19, "the FORM would be longer than 4,294,967,295 bytes"),
-    (20, "the output buffer is too short"),
-    (
-        21,
-        "a SEQN segment isn't on multiples of 4, runs backwards or ends past the highest octave",
-    ),
-    (22, "there is a SEQN, but the one-shot part isn't empty"),
-    (23, "FADE names a segment that isn't there"),
-    (24, "the sequence is longer than 4,294,967,295 samples"),
-    (25, "the buffer to fill has an odd number of places"),
-    (31, "the voice has no such octave"),
-    (32, "the step is 0 or above 16,777,216"),
-    (33, "the output rate is 0 or above 192,000"),
-    (34, "the key-up is later than the frames filled"),
-];
+/// What each rule says, in a few words; nothing where no rule has that number.
+fn words_of(number: u32) -> Option<&'static str> {
+    Some(match number {
+        // refusals.txt { written by tools/refusals.sh
+        1 => "the file is shorter than 12 bytes",
+        2 => "the file doesn't begin with FORM",
+        3 => "the FORM's type isn't 8SVX",
+        4 => "a chunk runs past the FORM",
+        5 => "a second VHDR, CHAN, PAN, SEQN, FADE or BODY",
+        6 => "a chunk's length is wrong",
+        7 => "CHAN isn't 2, 4 or 6",
+        8 => "there is no VHDR",
+        9 => "there is no BODY",
+        10 => "the compression is neither 0 nor 1",
+        11 => "a Fibonacci BODY of two channels has an odd length",
+        12 => "a Fibonacci channel is shorter than 2 bytes",
+        13 => "the octaves have more samples than 64 bits can count",
+        14 => "a channel is shorter than its octaves",
+        15 => "the sheet ends inside a record",
+        16 => "a record's kind, order or value is wrong, or the sheet has no header",
+        17 => "a text isn't UTF-8",
+        18 => "the sample lengths don't suit the header and CHAN",
+        19 => "the FORM would be longer than 4,294,967,295 bytes",
+        20 => "an output buffer is too short",
+        21 => "a SEQN segment isn't on multiples of 4, runs backwards or ends past the highest octave",
+        22 => "there is a SEQN beside a one-shot part",
+        23 => "FADE names a segment that isn't there",
+        24 => "the sequence is longer than 4,294,967,295 samples",
+        25 => "the buffer to fill has an odd number of places",
+        31 => "the voice has no such octave",
+        32 => "the step is 0 or above 16,777,216",
+        33 => "the output rate is 0 or above 192,000",
+        34 => "the key-up frame is later than the frames filled",
+        // } refusals.txt
+        _ => return None,
+    })
+}
 
 impl Refusal {
     pub(crate) const SAMPLES_UNSUITED: Refusal = Refusal(18);
@@ -63,9 +66,9 @@ impl Refusal {
         }
     }
 
-    /// The refusal that has this number, where there is one: 1 to 25 and 31 to 34.
+    /// The refusal that has this number, where there is one.
     pub fn of_number(number: u32) -> Option<Refusal> {
-        WORDS.iter().find(|(n, _)| *n == number).map(|_| Refusal(number))
+        words_of(number).map(|_| Refusal(number))
     }
 
     /// The rule's number.
@@ -75,10 +78,7 @@ impl Refusal {
 
     /// What the rule says, in a few words.
     pub fn words(&self) -> &'static str {
-        WORDS
-            .iter()
-            .find(|(n, _)| *n == self.0)
-            .map_or("by an unknown rule", |(_, words)| words)
+        words_of(self.0).unwrap_or("by an unknown rule")
     }
 }
 

@@ -204,20 +204,20 @@ fn values() {
 
 #[test]
 fn words_of_refusals() {
-    let numbers: Vec<u32> = (0..100).filter(|&n| Refusal::of_number(n).is_some()).collect();
-    assert_eq!(numbers, (1..=25).chain(31..=34).collect::<Vec<u32>>());
-    let mut words: Vec<&str> = numbers
-        .iter()
-        .map(|&n| Refusal::of_number(n).unwrap().words())
+    let list: Vec<(u32, &str)> = include_str!("../../../crates/refusal/refusals.txt")
+        .lines()
+        .filter(|line| !line.is_empty() && !line.starts_with('#'))
+        .map(|line| line.splitn(3, ' ').collect::<Vec<&str>>())
+        .map(|parts| (parts[0].parse().unwrap(), parts[2]))
         .collect();
-    assert!(words.iter().all(|w| !w.is_empty()));
-    words.sort_unstable();
-    words.dedup();
-    assert_eq!(words.len(), numbers.len());
+    let known: Vec<(u32, &str)> = (0..1000)
+        .filter_map(|n| Refusal::of_number(n).map(|r| (n, r.words())))
+        .collect();
+    assert_eq!(known, list);
     assert_eq!(
         Refusal::of_number(4).unwrap().to_string(),
         "refused by 4: a chunk runs past the FORM"
     );
     let error: Box<dyn std::error::Error> = Box::new(Refusal::of_number(7).unwrap());
-    assert_eq!(error.to_string(), "refused by 7: CHAN is not 2, 4 or 6");
+    assert_eq!(error.to_string(), "refused by 7: CHAN isn't 2, 4 or 6");
 }

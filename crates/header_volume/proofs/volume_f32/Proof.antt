@@ -1,6 +1,6 @@
 -- `header_volume::volume_f32` meets its contract. Neither cast loses anything: both numbers are at most 2 ^ 24.
 -- Assumes nothing.
-use Prim.Native.Nat.{_/_, _^_, _≤_}
+use Prim.Native.Nat.{_/_, _^_}
 use native.Mathlib.Nat.{div-le-self, le-trans}
 use lib.Dec.{le→leb, lit≤}
 use lib.Ieee.{inFloat}

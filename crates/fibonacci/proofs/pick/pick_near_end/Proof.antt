@@ -1,7 +1,7 @@
 -- The two nibbles whose deltas lie about the change are the nearest and the one before or after it, by the side on which the nearest lies.
 -- Assumes nothing.
 use mathlib.Core.Path.{_≡_, _∙_}
-use Prim.Native.Nat.{_+_, _-_, _<_}
+use Prim.Native.Nat.{_+_}
 use native.Mathlib.Omega.{arith}
 use borrow.Author.Needs.{needs}
 use lib.IntN.{pos}

@@ -1,7 +1,7 @@
 -- `samples::halves::right_half` meets its contract: it begins where the left half ends, and is as long.
 -- Assumes nothing.
 use mathlib.Core.Path.{ap}
-use Prim.Native.Nat.{ℕ, _-_, _/_}
+use Prim.Native.Nat.{ℕ, _/_}
 use native.Mathlib.Nat.{add-comm, add-sub-cancel-left}
 use lib.ListN.{length, take, drop}
 use denote.Ref.{now}
