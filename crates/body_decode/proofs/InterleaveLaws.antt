@@ -27,7 +27,10 @@ interleaved-at (l ∷ ls) (r ∷ rs) (suc i) h k =
     ap (λ (n : ℕ). drop n (interleaved (l ∷ ls) (r ∷ rs))) twice ∙ interleaved-at ls rs i (le-of-suc-le-suc h) (le-of-suc-le-suc k)
 
 -- a turn: a and b, the i-th of each side, are stored in a buffer that held d
-pub frame-stored : (ls rs d out : List ℕ) (i a b : ℕ) → i < length ls → i < length rs → i + i + 1 < length d → out ≡ take (i + i) (interleaved ls rs) ++ drop (i + i) d → a ≡ getD ls i 0 → b ≡ getD rs i 0 → set (set out (i + i) a) (i + i + 1) b ≡ take (i + 1 + (i + 1)) (interleaved ls rs) ++ drop (i + 1 + (i + 1)) d
+pub frame-stored :
+    (ls rs d out : List ℕ) (i a b : ℕ) → i < length ls → i < length rs → i + i + 1 < length d →
+    out ≡ take (i + i) (interleaved ls rs) ++ drop (i + i) d → a ≡ getD ls i 0 → b ≡ getD rs i 0 →
+    set (set out (i + i) a) (i + i + 1) b ≡ take (i + 1 + (i + 1)) (interleaved ls rs) ++ drop (i + 1 + (i + 1)) d
 frame-stored ls rs d out i a b h k room e p q =
     let want = interleaved ls rs in
     let rest = interleaved (drop (suc i) ls) (drop (suc i) rs) in
