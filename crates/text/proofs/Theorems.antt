@@ -18,7 +18,7 @@ use Rattle.text.proofs.PlaceLaws.{before-zero-le}
 use Rattle.text.proofs.TidyLaws.{both-left, both-right, before-zero-same, start-same, end-same, zero-free-before-zero, zero-free-lossy, zero-free-trim, trim-tidy}
 use Rattle.text.proofs.TrimLaws.{clean-is}
 use Rattle.text.specs.Text.{beforeZero, trim, clean, zeroFree, firstNotWhite, lastNotWhite, tidy}
-use Rattle.text.specs.TextRecords.{textRecords, recordBytes}
+use Rattle.text.specs.TextRecords.{textRecords}
 use Rattle.text_utf8.proofs.SubsequenceLaws.{subsequences-bytes}
 use Rattle.text_utf8.proofs.Theorems.{lossy-well-formed, lossy-same}
 use Rattle.text_utf8.specs.Utf8.{subsequences, lossy, wellFormed}
@@ -45,6 +45,12 @@ clean-bound l = rw clean-is (omega (arith, lossy-bound (trim (beforeZero l)), tr
 
 pub clean-len-exact : (l : List ℕ) → length l < 2 ^ 60 → min (length (clean l)) (2 ^ 62) ≡ length (clean l)
 clean-len-exact l h = omega (arith, clean-bound l)
+
+-- the bytes of records with a body of one byte: every second byte
+unfoldable pub recordBytes : List ℕ → List ℕ
+recordBytes [] = []
+recordBytes (kind ∷ []) = []
+recordBytes (kind ∷ b ∷ l) = b ∷ recordBytes l
 
 pub records-bytes : (l : List ℕ) → recordBytes (textRecords l) ≡ l
 unfolding recordBytes textRecords

@@ -6,9 +6,3 @@ use mathlib.Core.List.{List, [], _∷_}
 unfoldable pub textRecords : List ℕ → List ℕ
 textRecords [] = []
 textRecords (b ∷ l) = 11 ∷ b ∷ textRecords l
-
--- the bytes of records with a body of one byte: every second byte
-unfoldable pub recordBytes : List ℕ → List ℕ
-recordBytes [] = []
-recordBytes (kind ∷ []) = []
-recordBytes (kind ∷ b ∷ l) = b ∷ recordBytes l
