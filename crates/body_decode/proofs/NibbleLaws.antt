@@ -73,5 +73,7 @@ module _ (body : List ℕ) where
       rw add-one (running-next first ks j more)
 
   -- the next sample, from one that the code has
-  pub sample-after : (s s′ : ℤ) (j : ℕ) → (j < length (fibSamples body) → s ≡ getD (fibSamples body) j (pos 0)) → s′ ≡ fibStep s (getD (nibbles (drop 2 body)) j 0) → j + 1 < length (fibSamples body) → s′ ≡ getD (fibSamples body) (j + 1) (pos 0)
+  pub sample-after :
+      (s s′ : ℤ) (j : ℕ) → (j < length (fibSamples body) → s ≡ getD (fibSamples body) j (pos 0)) → s′ ≡ fibStep s (getD (nibbles (drop 2 body)) j 0) →
+      j + 1 < length (fibSamples body) → s′ ≡ getD (fibSamples body) (j + 1) (pos 0)
   sample-after s s′ j here step more = step ∙ ap (λ (x : ℤ). fibStep x (getD (nibbles (drop 2 body)) j 0)) (here (omega arith)) ∙ sym (sample-next j more)

@@ -21,12 +21,13 @@ use Rattle.field.specs.Signed.{sampleOf}
 use Rattle.header.specs.Octaves.{hi, totalSamples, total}
 use Rattle.header.specs.declared.compression.Compression.{Compression}
 use Rattle.header.specs.declared.compression.Compression.the-variants.{None, Fibonacci}
+use Rattle.header.specs.declared.«voice_header».Total.the-variants as totals
 use Rattle.header.specs.declared.«voice_header».VoiceHeader.{VoiceHeader}
 use Rattle.fibonacci.specs.Decode.{fibSamples}
 use Rattle.fibonacci.proofs.DecodeLaws.{samples-length}
 use Rattle.samples.specs.Stream.{stream}
 use Rattle.body_read.specs.Sides.{octavesOf, channelSamples}
-use Rattle.body_read.specs.Answers.{sampleCountOf, keptOf, streamSamples, StreamHas}
+use Rattle.body_read.specs.Helpers.{sampleCountOf, keptOf, streamSamples, StreamHas}
 use Rattle.body_read.specs.declared.lengths.Count.{Count}
 use Rattle.body_read.specs.declared.lengths.Count.the-variants.{Samples, Refused}
 
@@ -55,7 +56,9 @@ raw-first (suc n) [] = refl
 raw-first (suc n) (b ∷ bytes) = ap (_∷_ (sampleOf b)) (raw-first n bytes)
 
 -- what a buffer holds after them
-pub raw-written : (n : ℕ) (bytes : List ℕ) (buffer : List ℤ) → n ≤ length bytes → n ≤ length buffer → bufferAfter (gives (map sampleOf (take n bytes))) buffer ≡ written (take n (streamSamples None bytes)) buffer
+pub raw-written :
+    (n : ℕ) (bytes : List ℕ) (buffer : List ℤ) → n ≤ length bytes → n ≤ length buffer →
+    bufferAfter (gives (map sampleOf (take n bytes))) buffer ≡ written (take n (streamSamples None bytes)) buffer
 raw-written n bytes buffer has room =
     let long : length (map sampleOf (take n bytes)) ≡ n = length-map (take n bytes) sampleOf ∙ length-take-le n bytes has in
     let fits : length (map sampleOf (take n bytes)) ≤ length buffer = rw long room in
@@ -90,7 +93,9 @@ module _ (h : VoiceHeader) (samples : List ℤ) where
   octaves-count : sampleCountOf (octavesOf h samples) ≡ keptOf h (length samples)
   octaves-count = go (ltb (totalSamples h) (2 ^ 64)) (eqb (hi h) 0) (ltb (length samples) (totalSamples h)) refl
     where
-      go : (p q r : Bool) → ltb (length samples) (totalSamples h) ≡ r → sampleCountOf (kept p q r) ≡ cond p (cond q (Samples (length samples)) (cond r (Refused samplesShort) (Samples (totalSamples h)))) (Refused octaveTotal)
+      go :
+          (p q r : Bool) → ltb (length samples) (totalSamples h) ≡ r →
+          sampleCountOf (kept p q r) ≡ cond p (cond q (Samples (length samples)) (cond r (Refused samplesShort) (Samples (totalSamples h)))) (Refused octaveTotal)
       go false q r e = refl
       go true true r e = refl
       go true false true e = refl
@@ -162,7 +167,9 @@ pub record Channel (h : VoiceHeader) (c : Compression) (bytes : List ℕ) (n : �
   pub suits : (eqb (hi h) 0 || eqb n (totalSamples h)) ≡ true
 
 -- from a stream that gives samples
-channel-from : (h : VoiceHeader) (c : Compression) (bytes : List ℕ) (n : ℕ) → stream c bytes ≡ gives (streamSamples c bytes) → (n ≤ length (streamSamples c bytes) → StreamHas c bytes n) → sampleCountOf (channelSamples h c bytes) ≡ Samples n → Channel h c bytes n
+channel-from :
+    (h : VoiceHeader) (c : Compression) (bytes : List ℕ) (n : ℕ) → stream c bytes ≡ gives (streamSamples c bytes) →
+    (n ≤ length (streamSamples c bytes) → StreamHas c bytes n) → sampleCountOf (channelSamples h c bytes) ≡ Samples n → Channel h c bytes n
 unfolding channelSamples
 channel-from h c bytes n s has e =
     let k = octaves-kept h (streamSamples c bytes) n (rw s at e) in
@@ -192,7 +199,9 @@ pub channel-of : (h : VoiceHeader) (c : Compression) (bytes : List ℕ) (xs : Li
 channel-of h c bytes xs e = channel-gives h c bytes (length xs) (ap sampleCountOf e)
 
 -- a raw channel that is as long as the header says is kept whole
-pub channel-whole : (h : VoiceHeader) (bytes : List ℕ) → totalSamples h < 2 ^ 64 → (eqb (hi h) 0 || eqb (length bytes) (totalSamples h)) ≡ true → channelSamples h None bytes ≡ gives (map sampleOf bytes)
+pub channel-whole :
+    (h : VoiceHeader) (bytes : List ℕ) → totalSamples h < 2 ^ 64 → (eqb (hi h) 0 || eqb (length bytes) (totalSamples h)) ≡ true →
+    channelSamples h None bytes ≡ gives (map sampleOf bytes)
 unfolding channelSamples stream
 channel-whole h bytes small e =
     let same : length (map sampleOf bytes) ≡ length bytes = length-map bytes sampleOf in

@@ -29,7 +29,7 @@ use Rattle.fibonacci.specs.Decode.{nibbles, running, fibSamples}
 use Rattle.fibonacci.proofs.StepLaws.{step-fits}
 use Rattle.samples.specs.Halves.{leftHalf, rightHalf}
 use Rattle.body_read.specs.Sides.{Sides, channelSamples, twoSides, bodySides, lengthsSuit}
-use Rattle.body_read.specs.Answers.{streamSamples}
+use Rattle.body_read.specs.Helpers.{streamSamples}
 use Rattle.body_read.proofs.ChannelLaws.{channel-of, channel-whole}
 use Rattle.body_read.proofs.SideLaws.{one-gives, two-both, sides-one, sides-two, suit-parts, one-parts, two-parts, Source, sides-known}
 
@@ -108,13 +108,21 @@ module _ (h : VoiceHeader) (small : totalSamples h < 2 ^ 64) where
       let suits : (eqb (hi h) 0 || eqb (length (map byteOf l)) (totalSamples h)) ≡ true = rw (length-map l byteOf) e in
       channel-whole h (map byteOf l) small suits ∙ ap gives (bytes-back l f)
 
-  raw-two : (l r : List ℤ) → length r ≡ length l → (eqb (hi h) 0 || eqb (length l) (totalSamples h)) ≡ true → Samples l → Samples r → twoSides h None (map byteOf l ++ map byteOf r) ≡ gives (record { left = l; right = r })
+  raw-two :
+      (l r : List ℤ) → length r ≡ length l → (eqb (hi h) 0 || eqb (length l) (totalSamples h)) ≡ true → Samples l → Samples r →
+      twoSides h None (map byteOf l ++ map byteOf r) ≡ gives (record { left = l; right = r })
   raw-two l r same e fl fr =
       let halves : length (map byteOf r) ≡ length (map byteOf l) = length-map r byteOf ∙ same ∙ sym (length-map l byteOf) in
       let also : (eqb (hi h) 0 || eqb (length r) (totalSamples h)) ≡ true = rw same e in
-      rw (two-both h None (map byteOf l ++ map byteOf r) refl, left-back (map byteOf l) (map byteOf r) halves, right-back (map byteOf l) (map byteOf r) halves, raw-channel l e fl, raw-channel r also fr)
+      let both = two-both h None (map byteOf l ++ map byteOf r) refl in
+      let left = left-back (map byteOf l) (map byteOf r) halves in
+      let right = right-back (map byteOf l) (map byteOf r) halves in
+      rw (both, left, right, raw-channel l e fl, raw-channel r also fr)
 
-pub raw-back : (h : VoiceHeader) (stereo : Bool) (l r : List ℤ) → knownCompression (h .«compression_byte») ≡ Known None → totalSamples h < 2 ^ 64 → lengthsSuit h stereo (length l) (length r) ≡ true → Samples l → Samples r → bodySides h stereo (map byteOf l ++ map byteOf r) ≡ gives (record { left = l; right = r })
+pub raw-back :
+    (h : VoiceHeader) (stereo : Bool) (l r : List ℤ) → knownCompression (h .«compression_byte») ≡ Known None → totalSamples h < 2 ^ 64 →
+    lengthsSuit h stereo (length l) (length r) ≡ true → Samples l → Samples r →
+    bodySides h stereo (map byteOf l ++ map byteOf r) ≡ gives (record { left = l; right = r })
 raw-back h true l r k small e fl fr =
     let p = suit-parts h true (length l) (length r) e in
     sides-two h true (map byteOf l ++ map byteOf r) None k refl ∙ raw-two h small l r (eqb-true (length r) (length l) (p .1)) (p .0) fl fr

@@ -22,7 +22,8 @@ use Rattle.header.specs.declared.compression.KnownCompression.the-variants.{Kno
 use Rattle.header.specs.declared.«voice_header».VoiceHeader.{VoiceHeader}
 use Rattle.samples.specs.Halves.{leftHalf, rightHalf, uneven}
 use Rattle.body_read.specs.Sides.{Sides, channelSamples, oneSide, twoSides, bodySides, lengthsSuit}
-use Rattle.body_read.specs.Answers.{sampleCountOf, SidesFit, leftAfter, rightAfter, streamSamples}
+use Rattle.body_read.specs.Answers.{SidesFit, leftAfter, rightAfter}
+use Rattle.body_read.specs.Helpers.{sampleCountOf, streamSamples}
 use Rattle.body_read.specs.declared.lengths.Count.the-variants as count
 use Rattle.body_read.proofs.ChannelLaws.{count-refused, same-count, channel-gives, channel-of}
 
@@ -42,7 +43,9 @@ module _ (h : VoiceHeader) (c : Compression) (body : List ℕ) where
   one-gives samples e = rw e
 
   -- the buffers after the call, where there is room
-  pub one-written : (left right left′ : List ℤ) → SidesFit (oneSide h c body) (length left) (length right) → left′ ≡ bufferAfter (channelSamples h c body) left → (left′ ≡ leftAfter (oneSide h c body) left) × (right ≡ rightAfter (oneSide h c body) right)
+  pub one-written :
+      (left right left′ : List ℤ) → SidesFit (oneSide h c body) (length left) (length right) → left′ ≡ bufferAfter (channelSamples h c body) left →
+      (left′ ≡ leftAfter (oneSide h c body) left) × (right ≡ rightAfter (oneSide h c body) right)
   unfolding oneSide
   one-written left right left′ = go (channelSamples h c body)
     where
@@ -76,17 +79,24 @@ module _ (h : VoiceHeader) (c : Compression) (body : List ℕ) where
     pub two-refused : (number : ℕ) → sampleCountOf (channelSamples h c (leftHalf body)) ≡ count.Refused number → twoSides h c body ≡ refuses number
     two-refused number e = rw (two-both, count-refused (channelSamples h c (leftHalf body)) number e)
 
-    pub two-gives : (n : ℕ) → sampleCountOf (channelSamples h c (leftHalf body)) ≡ count.Samples n → twoSides h c body ≡ gives (record { left = take n (streamSamples c (leftHalf body)); right = take n (streamSamples c (rightHalf body)) })
+    pub two-gives :
+        (n : ℕ) → sampleCountOf (channelSamples h c (leftHalf body)) ≡ count.Samples n →
+        twoSides h c body ≡ gives (record { left = take n (streamSamples c (leftHalf body)); right = take n (streamSamples c (rightHalf body)) })
     two-gives n e =
         let left = channel-gives h c (leftHalf body) n e in
         let right = channel-gives h c (rightHalf body) n (sym halves-count ∙ e) in
         rw (two-both, left .is, right .is)
 
     -- the buffers after the calls, where there is room
-    pub two-written : (left right left′ right′ : List ℤ) → SidesFit (twoSides h c body) (length left) (length right) → left′ ≡ bufferAfter (channelSamples h c (leftHalf body)) left → right′ ≡ bufferAfter (channelSamples h c (rightHalf body)) right → (left′ ≡ leftAfter (twoSides h c body) left) × (right′ ≡ rightAfter (twoSides h c body) right)
+    pub two-written :
+        (left right left′ right′ : List ℤ) → SidesFit (twoSides h c body) (length left) (length right) →
+        left′ ≡ bufferAfter (channelSamples h c (leftHalf body)) left → right′ ≡ bufferAfter (channelSamples h c (rightHalf body)) right →
+        (left′ ≡ leftAfter (twoSides h c body) left) × (right′ ≡ rightAfter (twoSides h c body) right)
     two-written left right left′ right′ = rw two-both (go (channelSamples h c (leftHalf body)) (channelSamples h c (rightHalf body)) halves-count)
       where
-        go : (l r : Outcome (List ℤ)) → sampleCountOf l ≡ sampleCountOf r → SidesFit (both l r) (length left) (length right) → left′ ≡ bufferAfter l left → right′ ≡ bufferAfter r right → (left′ ≡ leftAfter (both l r) left) × (right′ ≡ rightAfter (both l r) right)
+        go :
+            (l r : Outcome (List ℤ)) → sampleCountOf l ≡ sampleCountOf r → SidesFit (both l r) (length left) (length right) → left′ ≡ bufferAfter l left →
+            right′ ≡ bufferAfter r right → (left′ ≡ leftAfter (both l r) left) × (right′ ≡ rightAfter (both l r) right)
         go (gives xs) (gives ys) e room p q = (rw (le-leb (length xs) (length left) (room .0)) at p, rw (le-leb (length ys) (length right) (room .1)) at q)
         go (gives xs) (refuses k) e room p q = let z : _≡_ {A = ℕ} 0 1 = cc in absurd (omega arith)
         go (refuses k) (gives ys) e room p q = let z : _≡_ {A = ℕ} 0 1 = cc in absurd (omega arith)

@@ -1,29 +1,13 @@
 -- What the sides of a BODY make of the answers and of the lent buffers.
-use Prim.Native.Nat.{ℕ, _^_, _≤_}
-use mathlib.Core.Bool.{cond}
-use mathlib.Core.List.{List, map}
-use lib.Dec.{eqb, ltb}
+use Prim.Native.Nat.{ℕ, _≤_}
+use mathlib.Core.List.{List}
 use lib.IntN.{ℤ}
 use lib.ListN.{length}
 use Rattle.laws.specs.Buffer.{written}
-use Rattle.refusal.specs.Numbers.{octaveTotal, samplesShort}
 use Rattle.refusal.specs.Outcome.{Outcome, gives, refuses}
-use Rattle.field.specs.Signed.{sampleOf}
-use Rattle.header.specs.Octaves.{hi, totalSamples}
-use Rattle.header.specs.declared.compression.Compression.{Compression}
-use Rattle.header.specs.declared.compression.Compression.the-variants.{None, Fibonacci}
-use Rattle.header.specs.declared.«voice_header».VoiceHeader.{VoiceHeader}
-use Rattle.fibonacci.specs.Decode.{fibSamples}
 use Rattle.body_read.specs.Sides.{Sides}
-use Rattle.body_read.specs.declared.lengths.Count.{Count}
-use Rattle.body_read.specs.declared.lengths.Count.the-variants as count
 use Rattle.body_read.specs.declared.lengths.SideLengths.{SideLengths}
 use Rattle.body_read.specs.declared.lengths.SideLengths.the-variants.{Lengths, Refused}
-
--- how many samples there are
-abbrev pub sampleCountOf : Outcome (List ℤ) → Count
-sampleCountOf (gives samples) = count.Samples (length samples)
-sampleCountOf (refuses number) = count.Refused number
 
 -- the lengths of the sides
 abbrev pub sideLengthsOf : Outcome Sides → SideLengths
@@ -44,20 +28,3 @@ leftAfter (refuses number) buffer = buffer
 abbrev pub rightAfter : Outcome Sides → List ℤ → List ℤ
 rightAfter (gives s) buffer = written (s .right) buffer
 rightAfter (refuses number) buffer = buffer
-
--- how many of a stream's n samples are kept
-abbrev pub keptOf : VoiceHeader → ℕ → Count
-keptOf h n =
-    cond (ltb (totalSamples h) (2 ^ 64))
-    (cond (eqb (hi h) 0) (count.Samples n) (cond (ltb n (totalSamples h)) (count.Refused samplesShort) (count.Samples (totalSamples h))))
-    (count.Refused octaveTotal)
-
--- the samples of a stream, of any length
-abbrev pub streamSamples : Compression → List ℕ → List ℤ
-streamSamples None bytes = map sampleOf bytes
-streamSamples Fibonacci bytes = fibSamples bytes
-
--- a stream has n samples or more
-abbrev pub StreamHas : Compression → List ℕ → ℕ → Type 0
-StreamHas None bytes n = n ≤ length bytes
-StreamHas Fibonacci bytes n = (2 ≤ length bytes) × (n ≤ length (fibSamples bytes))

@@ -1,3 +1,4 @@
 -- The meaning of a voice's sides.
 pub mod Sides
 pub mod Answers
+pub mod Helpers

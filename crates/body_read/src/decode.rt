@@ -16,7 +16,8 @@ ghost use lib.ListN.{length, take};
 ghost use Rattle.laws.specs.Buffer.{written};
 ghost use Rattle.refusal.specs.Outcome.{answer, bufferAfter};
 ghost use Rattle.body_read.specs.Sides.{channelSamples, twoSides, bodySides};
-ghost use Rattle.body_read.specs.Answers.{SidesFit, leftAfter, rightAfter, streamSamples, StreamHas};
+ghost use Rattle.body_read.specs.Answers.{SidesFit, leftAfter, rightAfter};
+ghost use Rattle.body_read.specs.Helpers.{streamSamples, StreamHas};
 
 // The first n samples of a channel's stream.
 fn decode_stream(c: Compression, bytes: &[u8], out: &mut [i8], n: usize)

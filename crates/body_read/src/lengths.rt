@@ -8,7 +8,8 @@ ghost use mathlib.Core.Path.{_≡_};
 ghost use Rattle.samples.specs.Stream.{stream};
 ghost use Rattle.samples.specs.Halves.{uneven};
 ghost use Rattle.body_read.specs.Sides.{channelSamples, oneSide, twoSides, bodySides, lengthsSuit};
-ghost use Rattle.body_read.specs.Answers.{sampleCountOf, sideLengthsOf, keptOf};
+ghost use Rattle.body_read.specs.Answers.{sideLengthsOf};
+ghost use Rattle.body_read.specs.Helpers.{sampleCountOf, keptOf};
 
 // How many samples the left and the right side have.
 pub enum SideLengths {

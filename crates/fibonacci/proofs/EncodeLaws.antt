@@ -13,7 +13,8 @@ use Rattle.laws.specs.Buffer.{written}
 use Rattle.laws.proofs.Prefix.{rest-past, prefix-next}
 use Rattle.field.specs.Signed.{byteOf}
 use Rattle.fibonacci.specs.Pick.{fibPick}
-use Rattle.fibonacci.specs.Encode.{picks, packed, fibBytes, packedPair}
+use Rattle.fibonacci.specs.Encode.{picks, packed, fibBytes}
+use Rattle.fibonacci.specs.Helpers.{packedPair}
 
 -- ---- lengths
 
@@ -102,7 +103,9 @@ module _ (samples : List ℤ) (all : List ℕ) (j : ℕ) (s : ℤ) (left : packe
         rw past (prefix-next all _ d out (2 + j) _ pair-next h e)
 
   -- one sample more, the last
-  pub last-stored : (a : ℤ) → 2 * j + 2 ≡ length samples → a ≡ getD samples (2 * j + 1) (pos 0) → (d out : List ℕ) → out ≡ take (2 + j) all ++ drop (2 + j) d → 2 + j < length d → set out (2 + j) (fibPick s a * 16 + 8) ≡ take (2 + j + 1) all ++ drop (2 + j + 1) d
+  pub last-stored :
+      (a : ℤ) → 2 * j + 2 ≡ length samples → a ≡ getD samples (2 * j + 1) (pos 0) → (d out : List ℕ) → out ≡ take (2 + j) all ++ drop (2 + j) d →
+      2 + j < length d → set out (2 + j) (fibPick s a * 16 + 8) ≡ take (2 + j + 1) all ++ drop (2 + j + 1) d
   last-stored a end a-is d out e h =
       let none : drop (2 * j + 1 + 1) samples ≡ [] = drop-of-length-le samples {i = 2 * j + 1 + 1} (omega arith) in
       let only : drop (2 * j + 1) samples ≡ a ∷ [] = next-one samples (2 * j + 1) (omega arith) ∙ rw (none, ← a-is) in

@@ -15,7 +15,8 @@ use mir.Syntax.{w8}
 use mir.Val.{SFits}
 use Rattle.laws.proofs.Signed.{up, dn, zarith, known, sum, Diff, diff, abs-parts}
 use Rattle.fibonacci.specs.Step.{deltas, fibStep}
-use Rattle.fibonacci.specs.Pick.{distance, fibPick, nearestDelta, Between}
+use Rattle.fibonacci.specs.Pick.{distance, fibPick}
+use Rattle.fibonacci.specs.Helpers.{nearestDelta, Between}
 use Rattle.fibonacci.proofs.StepLaws.{delta-rises, delta-no-lower, delta-first, delta-last, step-fits, step-last, step-free, step-rises, step-short, step-over, step-lower}
 use Rattle.fibonacci.proofs.Least.{Least, argmin-least, argmin-same, least-one}
 
@@ -105,7 +106,9 @@ module _ (prev target : ℤ) (f : SFits w8 target) where
     reached k h = falls prev target f k (above - 1) (omega (arith, two .within)) (omega (zarith, two .past)) h
 
     -- what leads no farther than the two leads no farther than any
-    of-all : (m : ℕ) → distance prev target m ≤ distance prev target (above - 1) → distance prev target m ≤ distance prev target above → (k : ℕ) → k ≤ 15 → distance prev target m ≤ distance prev target k
+    of-all :
+        (m : ℕ) → distance prev target m ≤ distance prev target (above - 1) → distance prev target m ≤ distance prev target above → (k : ℕ) → k ≤ 15 →
+        distance prev target m ≤ distance prev target k
     of-all m b a k h = go (ltb k above) refl
       where
         go : (t : Bool) → ltb k above ≡ t → distance prev target m ≤ distance prev target k
@@ -201,7 +204,8 @@ next-between prev target past last = record { some = omega arith; within = more 
     go : (t : Bool) → ltZ next change ≡ t → change ≤ℤ next
     go true e =
         let rise = delta-rises m (m + 1) (omega arith) (more (ltb m 15) refl) in
-        absurd (omega (zarith, nearest-least change .least (m + 1) (omega (arith, more (ltb m 15) refl)), apart-below change (getD deltas m (pos 0)) (omega zarith), apart-below change next (omega zarith)))
+        let least = nearest-least change .least (m + 1) (omega (arith, more (ltb m 15) refl)) in
+        absurd (omega (zarith, least, apart-below change (getD deltas m (pos 0)) (omega zarith), apart-below change next (omega zarith)))
     go false e = omega zarith
 
 -- one that is not past it is past the one before

@@ -75,7 +75,9 @@ whole-survives s bs f =
     let ks = nibbles bs in
     let xs = drop 1 (running s ks) in
     let first = running-first s ks in
-    let no-more : length (fibSamples (fibBytes (s ∷ xs))) ≤ suc (length xs) = omega (arith, samples-length (fibBytes (s ∷ xs)), bytes-length (s ∷ xs), ap length first, running-length s ks, nibbles-length bs) in
+    let bytes = fibBytes (s ∷ xs) in
+    let no-more : length (fibSamples bytes) ≤ suc (length xs) =
+    omega (arith, samples-length bytes, bytes-length (s ∷ xs), ap length first, running-length s ks, nibbles-length bs) in
     ap (λ (l : List ℤ). fibSamples (fibBytes l)) first ∙ sym (take-all (suc (length xs)) _ no-more) ∙ written-first s xs f ∙ running-reached s ks
 
 pub survives : (body : List ℕ) → fibSamples (fibBytes (fibSamples body)) ≡ fibSamples body

@@ -5,7 +5,6 @@ use lib.IntN.{ℤ}
 use Rattle.field.specs.Signed.{byteOf}
 use Rattle.fibonacci.specs.Step.{fibStep}
 use Rattle.fibonacci.specs.Pick.{fibPick}
-use Rattle.fibonacci.specs.declared.encode.PackedPair.{PackedPair}
 
 -- the nibbles for samples, each picked from the sample that the decoder has by then
 unfoldable pub picks : ℤ → List ℤ → List ℕ
@@ -22,10 +21,3 @@ packed (a ∷ (b ∷ ks)) = (a * 16 + b) ∷ packed ks
 unfoldable pub fibBytes : List ℤ → List ℕ
 fibBytes [] = 0 ∷ 0 ∷ []
 fibBytes (x ∷ xs) = 0 ∷ byteOf x ∷ packed (picks x xs)
-
--- the byte for two samples that follow `prev`, and the sample that the decoder has after them
-abbrev pub packedPair : ℤ → ℤ → ℤ → PackedPair
-packedPair prev a b = record {
-  byte = fibPick prev a * 16 + fibPick (fibStep prev (fibPick prev a)) b;
-  last = fibStep (fibStep prev (fibPick prev a)) (fibPick (fibStep prev (fibPick prev a)) b);
-}

@@ -3,3 +3,4 @@ pub mod Step
 pub mod Decode
 pub mod Pick
 pub mod Encode
+pub mod Helpers

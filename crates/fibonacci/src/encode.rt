@@ -7,7 +7,8 @@ ghost use Prim.Native.Nat.{_+_, _/_, _≤_};
 ghost use lib.ListN.{length};
 ghost use Rattle.laws.specs.Buffer.{written};
 ghost use Rattle.refusal.specs.Outcome.{gives, answer, bufferAfter};
-ghost use Rattle.fibonacci.specs.Encode.{fibBytes, packedPair};
+ghost use Rattle.fibonacci.specs.Encode.{fibBytes};
+ghost use Rattle.fibonacci.specs.Helpers.{packedPair};
 
 // Two nibbles in a byte, and the sample that the decoder has after them.
 struct PackedPair {

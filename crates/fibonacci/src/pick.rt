@@ -4,7 +4,8 @@ use crate::step::fib_step;
 ghost use mathlib.Core.Path.{_≡_};
 ghost use lib.IntN.{pos, negsuc, _-ℤ_};
 ghost use lib.Signed.{_≤ℤ_};
-ghost use Rattle.fibonacci.specs.Pick.{fibPick, nearestDelta, Between};
+ghost use Rattle.fibonacci.specs.Pick.{fibPick};
+ghost use Rattle.fibonacci.specs.Helpers.{nearestDelta, Between};
 
 // The lowest nibble whose delta is nearest, for each change from -33 to 21, by a letter: A is 0 and P is 15.
 const NEAREST: [u8; 55] = *b"AAAAAABBBBBBBBBBBCCCCCCDDDDEEEFGHIJKLLMMNNNNOOOOOOOPPPP";

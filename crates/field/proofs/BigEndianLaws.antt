@@ -7,7 +7,8 @@ use lib.ListN.{length, getD, drop, take, List·getD-append}
 use lib.Seq.{getD-drop, getD-take}
 use mathlib.Core.List.{List, [], _∷_, _++_}
 use mathlib.Core.Path.{_≡_, refl, sym, ap, _∙_}
-use native.Mathlib.Nat.{add-zero, add-mul, mul-assoc, mul-comm, mul-right-comm, mul-le-mul-right, mod-one, mod-lt, pow-suc, one-le-pow, div-add-mod', mul-add-mod-self-left, mul-add-mod-self-right, mod-eq-of-lt, mul-add-div-right, div-eq-of-lt, not-suc-le-zero, le-of-suc-le-suc}
+use native.Mathlib.Nat.{add-zero, add-mul, mul-assoc, mul-comm, mul-right-comm, mul-le-mul-right, mod-one, mod-lt, pow-suc, one-le-pow, div-add-mod'}
+use native.Mathlib.Nat.{mul-add-mod-self-left, mul-add-mod-self-right, mod-eq-of-lt, mul-add-div-right, div-eq-of-lt, not-suc-le-zero, le-of-suc-le-suc}
 use native.Mathlib.Omega.{arith}
 use Rattle.field.specs.BigEndian.{Bytes, bigEndian, bigEndianBytes}
 

@@ -35,10 +35,15 @@ module _ {A : Type 0} where
   next-within l rest i v e = omega (arith, ap length e, length-drop i l)
 
   -- v, which is want's element at i, is stored at i
-  pub prefix-store : (want d out : List A) (i : ℕ) (dft v : A) → i < length want → i < length d → out ≡ take i want ++ drop i d → v ≡ getD want i dft → set out i v ≡ take (i + 1) want ++ drop (i + 1) d
+  pub prefix-store :
+      (want d out : List A) (i : ℕ) (dft v : A) → i < length want → i < length d → out ≡ take i want ++ drop i d → v ≡ getD want i dft →
+      set out i v ≡ take (i + 1) want ++ drop (i + 1) d
   prefix-store want d out i dft v hw hd e q =
       let small : i ≤ length want = omega arith in
-      rw (e, q, add-one, take-suc want i dft) (rw (drop-cons d i dft hd) (set-at (take i want) (getD d i dft) (drop (suc i) d) (getD want i dft) i (length-take-le i want small) ∙ sym (append-assoc (take i want) (getD want i dft ∷ []) (drop (suc i) d))))
+      let front = take i want in
+      let past = drop (suc i) d in
+      let stored = set-at front (getD d i dft) past (getD want i dft) i (length-take-le i want small) in
+      rw (e, q, add-one, take-suc want i dft) (rw (drop-cons d i dft hd) (stored ∙ sym (append-assoc front (getD want i dft ∷ []) past)))
 
   -- the same where want is known by what is left of it
   pub prefix-next : (want rest d out : List A) (i : ℕ) (v : A) → drop i want ≡ v ∷ rest → i < length d → out ≡ take i want ++ drop i d → set out i v ≡ take (i + 1) want ++ drop (i + 1) d
@@ -52,7 +57,9 @@ module _ {A : Type 0} where
 
 -- a loop that writes f of each element of a list
 module _ {A B : Type 0} (f : A → B) (l : List A) where
-  pub prefix-map : (d out : List B) (i : ℕ) (dft : A) (v : B) → i < length l → i < length d → out ≡ take i (map f l) ++ drop i d → v ≡ f (getD l i dft) → set out i v ≡ take (i + 1) (map f l) ++ drop (i + 1) d
+  pub prefix-map :
+      (d out : List B) (i : ℕ) (dft : A) (v : B) → i < length l → i < length d → out ≡ take i (map f l) ++ drop i d → v ≡ f (getD l i dft) →
+      set out i v ≡ take (i + 1) (map f l) ++ drop (i + 1) d
   prefix-map d out i dft v hl hd e q =
       let within : i < length (map f l) = rw (length-map l f) hl in
       prefix-store (map f l) d out i (f dft) v within hd e (q ∙ sym (List·getD-map f l i dft))

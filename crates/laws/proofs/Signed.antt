@@ -1,5 +1,6 @@
 -- Linear arithmetic on ℤ, done by `omega` on ℕ. An integer z has a positive part, `up z`, and a negative part, `dn z`: z = up z - dn z, and one of them is 0.
---     omega (zarith, known f, sum x y, ..)     proves x ≡ y, x ≤ℤ y, x <ℤ y, SFits w z, T (nonNeg z) and what omega proves of ℕ. It reads the tests that lead to a place, `ltZ a b ≡ true`, and equations of ℤ, by itself
+--     omega (zarith, known f, sum x y, ..)     proves x ≡ y, x ≤ℤ y, x <ℤ y, SFits w z, T (nonNeg z) and what omega proves of ℕ.
+--                      It reads the tests that lead to a place, `ltZ a b ≡ true`, and equations of ℤ, by itself
 --     known f          of f : SFits w z, as `c .fits .x`: the bounds of z's parts, and that `toZ w (ofZ w z)` has the same parts
 --     sum x y, diff x y, times z n, quot z d     the parts of x +ℤ y, x -ℤ y, z *ℤ pos n, quotZ z (pos d): list one for each such term in the goal
 --     abs-parts z, mag-parts z                   natAbs z and mag z by the parts

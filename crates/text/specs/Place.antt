@@ -1,4 +1,4 @@
--- Where the text lies in its payload.
+-- What the code's helpers ask and give; no reader of the meanings needs it. Where the text lies in its payload.
 use Prim.Native.Nat.{ℕ, _+_}
 use lib.ListN.{length}
 use mathlib.Core.Bool.{cond}

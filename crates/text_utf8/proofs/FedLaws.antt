@@ -52,7 +52,9 @@ fed-full-row [] (b ∷ t) r e d = absurd (omega arith)
 fed-full-row (x ∷ rs) [] r e d = absurd (omega arith)
 fed-full-row (x ∷ rs) (b ∷ t) r e d = go (λ e. fed-full-row rs t r e (omega arith)) (within x b) e
   where
-    go : (matching rs (t ++ r) ≡ length t → fedAll (some rs) (t ++ r) ≡ fedAll (some []) r) → (u : Bool) → cond u (suc (matching rs (t ++ r))) 0 ≡ suc (length t) → fedAll (cond u (some rs) none) (t ++ r) ≡ fedAll (some []) r
+    go :
+        (matching rs (t ++ r) ≡ length t → fedAll (some rs) (t ++ r) ≡ fedAll (some []) r) → (u : Bool) →
+        cond u (suc (matching rs (t ++ r))) 0 ≡ suc (length t) → fedAll (cond u (some rs) none) (t ++ r) ≡ fedAll (some []) r
     go later true e = later (omega arith)
     go later false e = absurd (omega arith)
 
@@ -68,7 +70,9 @@ fed-part-row (x ∷ rs) [] (b ∷ r) e d = go (within x b) e
     go false e = fed-never r
 fed-part-row (x ∷ rs) (b ∷ t) r e d = go (λ e. fed-part-row rs t r e (λ q. d (ap suc q))) (within x b) e
   where
-    go : (matching rs (t ++ r) ≡ length t → complete (fedAll (some rs) (t ++ r)) ≡ false) → (u : Bool) → cond u (suc (matching rs (t ++ r))) 0 ≡ suc (length t) → complete (fedAll (cond u (some rs) none) (t ++ r)) ≡ false
+    go :
+        (matching rs (t ++ r) ≡ length t → complete (fedAll (some rs) (t ++ r)) ≡ false) → (u : Bool) →
+        cond u (suc (matching rs (t ++ r))) 0 ≡ suc (length t) → complete (fedAll (cond u (some rs) none) (t ++ r)) ≡ false
     go later true e = later (omega arith)
     go later false e = absurd (omega arith)
 
@@ -76,7 +80,9 @@ pub fed-subsequences : (ps : List Subsequence) → Consistent ps → complete (f
 fed-subsequences [] h = refl
 fed-subsequences (p ∷ ps) h = go (h .0) (fed-subsequences ps (h .1))
   where
-    go : {p : Subsequence} → IsFirst p (each bytes ps) → complete (fedAll (some []) (each bytes ps)) ≡ allWellFormed ps → complete (fedAll (some []) (bytes p ++ each bytes ps)) ≡ allWellFormed (p ∷ ps)
+    go :
+        {p : Subsequence} → IsFirst p (each bytes ps) → complete (fedAll (some []) (each bytes ps)) ≡ allWellFormed ps →
+        complete (fedAll (some []) (bytes p ++ each bytes ps)) ≡ allWellFormed (p ∷ ps)
     go (noRow f) later = ap (λ (o : Option (List Range)). complete (fedAll o (each bytes ps))) f ∙ fed-never (each bytes ps)
     go (partRow {t = t} {rs = rs} f k d) later = ap (λ (o : Option (List Range)). complete (fedAll o (t ++ each bytes ps))) f ∙ fed-part-row rs t (each bytes ps) k d
     go (fullRow {t = t} {rs = rs} f k d) later = ap (λ (o : Option (List Range)). complete (fedAll o (t ++ each bytes ps))) f ∙ ap complete (fed-full-row rs t (each bytes ps) k d) ∙ later

@@ -40,7 +40,9 @@ matching-shorter (r ∷ rs) [] (b ∷ x) y e = go (within r b) e
     go false e = refl
 matching-shorter (r ∷ rs) (b ∷ t) x y e = go (matching-shorter rs t x y) (within r b) e
   where
-    go : (matching rs (t ++ (x ++ y)) ≡ length t → matching rs (t ++ x) ≡ length t) → (u : Bool) → cond u (suc (matching rs (t ++ (x ++ y)))) 0 ≡ suc (length t) → cond u (suc (matching rs (t ++ x))) 0 ≡ suc (length t)
+    go :
+        (matching rs (t ++ (x ++ y)) ≡ length t → matching rs (t ++ x) ≡ length t) → (u : Bool) →
+        cond u (suc (matching rs (t ++ (x ++ y)))) 0 ≡ suc (length t) → cond u (suc (matching rs (t ++ x))) 0 ≡ suc (length t)
     go later true e = ap suc (later (omega arith))
     go later false e = absurd (omega arith)
 
@@ -57,7 +59,9 @@ matching-full [] (b ∷ t) r r′ e d = absurd (omega arith)
 matching-full (x ∷ rs) [] r r′ e d = absurd (omega arith)
 matching-full (x ∷ rs) (b ∷ t) r r′ e d = go (λ e. matching-full rs t r r′ e (omega arith)) (within x b) e
   where
-    go : (matching rs (t ++ r) ≡ length t → matching rs (t ++ r′) ≡ length t) → (u : Bool) → cond u (suc (matching rs (t ++ r))) 0 ≡ suc (length t) → cond u (suc (matching rs (t ++ r′))) 0 ≡ suc (length t)
+    go :
+        (matching rs (t ++ r) ≡ length t → matching rs (t ++ r′) ≡ length t) → (u : Bool) → cond u (suc (matching rs (t ++ r))) 0 ≡ suc (length t) →
+        cond u (suc (matching rs (t ++ r′))) 0 ≡ suc (length t)
     go later true e = ap suc (later (omega arith))
     go later false e = absurd (omega arith)
 

@@ -1,4 +1,4 @@
--- `samples::body::copy_bytes` meets its contract: after i turns `out` holds the first i bytes, and past them what it held.
+-- `body_decode::copy_bytes` meets its contract: after i turns `out` holds the first i bytes, and past them what it held.
 -- Assumes nothing.
 use mathlib.Core.Path.{_≡_, refl, _∙_}
 use mathlib.Core.List.{_++_}
@@ -14,6 +14,9 @@ Inv-loop body out₀ n i₀ out i = (i ≤ n) × (length out ≡ length out₀) 
 
 abbrev μ-loop : tie.MeasureT-loop
 μ-loop body out₀ n i₀ out i = n - i
+
+abbrev entry : tie.After-shared-slice-known Inv-loop μ-loop → tie.Start Inv-loop μ-loop
+entry c = c .before .before .before
 
 loop-holds : tie.Need-loop-holds Inv-loop μ-loop
 loop-holds c = (omega arith, refl, refl)
@@ -33,7 +36,7 @@ loop-less c = omega arith
 loop-again : tie.Need-loop-again Inv-loop μ-loop
 loop-again c =
     let l = c .before .before .loop in
-    let a = c .before .before .before .args in
+    let a = entry c .args in
     (omega arith, simp length-set (l .inv .1), prefix-store (a .body .now) (a .out .now) (l .out) (l .i) 0 _ (omega arith) (omega arith) (l .inv .2) refl)
 
 same-length : tie.Need-same-length Inv-loop μ-loop

@@ -1,4 +1,4 @@
--- `samples::body::copy_fibonacci` meets its contract: `prev` is the next sample, where there is one.
+-- `body_decode::copy_fibonacci` meets its contract: `prev` is the next sample, where there is one.
 -- Assumes nothing.
 use mathlib.Core.Path.{_≡_, refl, sym, ap, _∙_}
 use mathlib.Core.List.{_++_}
@@ -26,6 +26,12 @@ Inv-loop body out₀ n prev₀ i₀ out prev i =
 abbrev μ-loop : tie.MeasureT-loop
 μ-loop body out₀ n prev₀ i₀ out prev i = n - i
 
+abbrev entry : tie.After-sample-of-byte Inv-loop μ-loop → tie.Start Inv-loop μ-loop
+entry c = c .before .before .before .before
+
+abbrev turn : tie.After-next-sample Inv-loop μ-loop → tie.At-loop Inv-loop μ-loop
+turn c = c .before .before .before
+
 shared-slice-read-sample-of-byte : tie.Need-shared-slice-read-sample-of-byte Inv-loop μ-loop
 shared-slice-read-sample-of-byte c = omega arith
 
@@ -34,7 +40,8 @@ sample-of-byte-requires c κs = tt
 
 loop-holds : tie.Need-loop-holds Inv-loop μ-loop
 loop-holds c =
-    (omega arith, refl, refl, (λ _. back w8 (c .sample-of-byte .ok) ∙ c .sample-of-byte .ensures ∙ sym (sample-first (c .before .before .before .before .args .body .now))))
+    let first = back w8 (c .sample-of-byte .ok) ∙ c .sample-of-byte .ensures in
+    (omega arith, refl, refl, (λ _. first ∙ sym (sample-first (entry c .args .body .now))))
 
 byte-of-sample-requires : tie.Need-byte-of-sample-requires Inv-loop μ-loop
 byte-of-sample-requires c κs = tt
@@ -53,8 +60,8 @@ loop-less c = omega arith
 
 loop-again : tie.Need-loop-again Inv-loop μ-loop
 loop-again c =
-    let l = c .before .before .before .loop in
-    let a = c .before .before .before .before .before .before .before .before .args in
+    let l = turn c .loop in
+    let a = entry (turn c .before) .args in
     let all = fibSamples (a .body .now) in
     let here : toZ w8 (l .prev) ≡ getD all (l .i) (pos 0) = l .inv .3 (omega arith) in
     let within : l .i < length (take (a .n) all) = rw (length-take-le (a .n) all (omega arith)) (omega arith) in (
@@ -71,7 +78,7 @@ same-length c = c .before .loop .inv .1
 returns : tie.Need-returns Inv-loop μ-loop
 returns c =
     let l = c .before .loop in
-    let a = c .before .before .before .before .before .before .args in
+    let a = entry (c .before .before) .args in
     let all = fibSamples (a .body .now) in
     let long = length-take-le (a .n) all (omega arith) in
     l .inv .2 ∙ prefix-map-whole byteOf (take (a .n) all) (a .out .now) (l .i) (omega (arith, long))

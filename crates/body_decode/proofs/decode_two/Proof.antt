@@ -1,8 +1,15 @@
--- `samples::body::decode_two` meets its contract: in each arm the match says which compression it is.
+-- `body_decode::decode_two` meets its contract: in each arm the match says which compression it is.
 -- Assumes nothing.
 use borrow.Author.Needs.{needs}
 use Rattle.body_decode.proofs.decode_two.Statement.{statement}
 use Rattle.body_decode.proofs.decode_two.Tie as tie
+
+-- the arms of the match
+abbrev raw-told : tie.After-slice-known2 → tie.After-enum-told
+raw-told c = c .before .before .before .before
+
+abbrev fibonacci-told : tie.After-slice-known3 → tie.After-enum-told2
+fibonacci-told c = c .before .before .before .before
 
 enum-told : tie.Need-enum-told
 enum-told c = search needs
@@ -20,13 +27,13 @@ same-length : tie.Need-same-length
 same-length c = search needs
 
 returns : tie.Need-returns
-returns c = rw (c .before .before .before .before .enum-told .given .1) (c .before .before .two-raw .ensures)
+returns c = rw (raw-told c .enum-told .given .1) (c .before .before .two-raw .ensures)
 
 same-length-2 : tie.Need-same-length-2
 same-length-2 c = search needs
 
 returns-2 : tie.Need-returns-2
-returns-2 c = rw (c .before .before .before .before .enum-told2 .given .1) (c .before .before .two-fibonacci .ensures)
+returns-2 c = rw (fibonacci-told c .enum-told2 .given .1) (c .before .before .two-fibonacci .ensures)
 
 pub decode-two-spec : {M : Type 1} → statement M
 decode-two-spec =

@@ -1,4 +1,4 @@
--- `samples::body::interleave_bytes` meets its contract: after i turns `out` holds the first i frames, and past them what it held.
+-- `body_decode::interleave_bytes` meets its contract: after i turns `out` holds the first i frames, and past them what it held.
 -- Assumes nothing.
 use mathlib.Core.Path.{_≡_, refl, sym, _∙_}
 use mathlib.Core.List.{_++_}
@@ -18,6 +18,9 @@ Inv-loop left right out₀ n i₀ out i =
 
 abbrev μ-loop : tie.MeasureT-loop
 μ-loop left right out₀ n i₀ out i = n - i
+
+abbrev turn : tie.After-shared-slice-known2 Inv-loop μ-loop → tie.At-loop Inv-loop μ-loop
+turn c = c .before .before .before
 
 loop-holds : tie.Need-loop-holds Inv-loop μ-loop
 loop-holds c = (omega arith, refl, refl)
@@ -51,8 +54,8 @@ loop-less c = omega arith
 
 loop-again : tie.Need-loop-again Inv-loop μ-loop
 loop-again c =
-    let l = c .before .before .before .loop in
-    let a = c .before .before .before .before .args in
+    let l = turn c .loop in
+    let a = turn c .before .args in
     let ls = take (a .n) (a .left .now) in
     let rs = take (a .n) (a .right .now) in (
       omega arith,

@@ -1,4 +1,4 @@
--- `samples::body::interleave_fibonacci` meets its contract: a and b are the next samples of the two sides, where there are any.
+-- `body_decode::interleave_fibonacci` meets its contract: a and b are the next samples of the two sides, where there are any.
 -- Assumes nothing.
 use mathlib.Core.Path.{_≡_, refl, sym, ap, _∙_}
 use mathlib.Core.List.{_++_}
@@ -29,6 +29,15 @@ Inv-loop left right out₀ n a₀ b₀ i₀ out a b i =
 abbrev μ-loop : tie.MeasureT-loop
 μ-loop left right out₀ n a₀ b₀ i₀ out a b i = n - i
 
+abbrev entry : tie.After-sample-of-byte Inv-loop μ-loop → tie.Start Inv-loop μ-loop
+entry c = c .before .before .before .before .before
+
+abbrev loop-entry : tie.At-loop Inv-loop μ-loop → tie.Start Inv-loop μ-loop
+loop-entry l = let first = l .before .before .before in entry first
+
+abbrev turn : tie.After-byte-of-sample2 Inv-loop μ-loop → tie.At-loop Inv-loop μ-loop
+turn c = c .before .before .before
+
 shared-slice-read-sample-of-byte : tie.Need-shared-slice-read-sample-of-byte Inv-loop μ-loop
 shared-slice-read-sample-of-byte c = omega arith
 
@@ -44,7 +53,7 @@ sample-of-byte-requires-2 c κs = tt
 loop-holds : tie.Need-loop-holds Inv-loop μ-loop
 loop-holds c =
     let x = c .before .before in
-    let a = x .before .before .before .before .before .args in (
+    let a = entry x .args in (
       omega arith,
       refl,
       refl,
@@ -88,8 +97,8 @@ loop-less c = omega arith
 loop-again : tie.Need-loop-again Inv-loop μ-loop
 loop-again c =
     let e = c .before .before in
-    let l = e .before .before .before .loop in
-    let a = e .before .before .before .before .before .before .before .before .before .before .before .args in
+    let l = turn e .loop in
+    let a = loop-entry (turn e) .args in
     let ls = fibSamples (a .left .now) in
     let rs = fibSamples (a .right .now) in
     let left-here : toZ w8 (l .a) ≡ getD ls (l .i) (pos 0) = l .inv .3 (omega arith) in
@@ -112,7 +121,7 @@ same-length c = c .before .loop .inv .1
 returns : tie.Need-returns Inv-loop μ-loop
 returns c =
     let l = c .before .loop in
-    let a = c .before .before .before .before .before .before .before .before .before .args in
+    let a = loop-entry (c .before) .args in
     let ls = fibSamples (a .left .now) in
     let rs = fibSamples (a .right .now) in
     let long = by-turns-length (frameBytes (a .n) ls) (frameBytes (a .n) rs) (a .n) (frame-length (a .n) ls (omega arith)) (frame-length (a .n) rs (omega arith)) in

@@ -1,4 +1,4 @@
--- `samples::body::nibble_at` meets its contract: nibble m lies in byte 2 + m / 2, the high one where m is even.
+-- `body_decode::nibble_at` meets its contract: nibble m lies in byte 2 + m / 2, the high one where m is even.
 -- Assumes nothing.
 use Prim.Native.Nat.{_+_, _/_}
 use native.Mathlib.Omega.{arith}
@@ -6,6 +6,9 @@ use borrow.Author.Needs.{needs}
 use Rattle.body_decode.proofs.NibbleLaws.{nibble-past, nibble-even, nibble-odd}
 use Rattle.body_decode.proofs.nibble_at.Statement.{statement}
 use Rattle.body_decode.proofs.nibble_at.Tie as tie
+
+abbrev entry : tie.After-shared-slice-known → tie.Start
+entry c = c .before .before
 
 add-k : tie.Need-add-k
 add-k c = search needs
@@ -18,12 +21,12 @@ shared-slice-read-b c = search needs
 
 returns-2 : tie.Need-returns-2
 returns-2 c =
-    let a = c .before .before .before .args in
+    let a = entry (c .before) .args in
     (omega (arith, c .before .shared-slice-known .given (2 + a .m / 2)), nibble-even (a .body .now) (a .m) (c .if2 .taken))
 
 returns-3 : tie.Need-returns-3
 returns-3 c =
-    let a = c .before .before .before .args in
+    let a = entry (c .before) .args in
     (omega arith, nibble-odd (a .body .now) (a .m) (c .if2 .left))
 
 pub nibble-at-spec : {M : Type 1} → statement M

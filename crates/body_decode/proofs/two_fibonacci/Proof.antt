@@ -1,13 +1,15 @@
--- `samples::body::two_fibonacci` meets its contract: two Fibonacci halves give their samples by turns, as many as the limit allows.
+-- `body_decode::two_fibonacci` meets its contract: two Fibonacci halves give their samples by turns, as many as the limit allows.
 -- Assumes nothing.
 use mathlib.Core.Path.{_≡_, ap, _∙_}
 use mathlib.Core.List.{List}
 use Prim.Native.Nat.{ℕ, _+_, min}
 use native.Mathlib.Omega.{arith}
+use lib.IntN.{ℤ}
 use lib.ListN.{length}
 use borrow.Author.Needs.{needs}
 use Rattle.laws.specs.Buffer.{written}
 use Rattle.refusal.specs.Numbers.{oddHalves, channelShort}
+use Rattle.refusal.specs.Outcome.{gives}
 use Rattle.refusal.proofs.OutcomeLaws.{outcome-refused, outcome-fits, outcome-short}
 use Rattle.header.specs.declared.compression.Compression.the-variants.{Fibonacci}
 use Rattle.fibonacci.specs.Decode.{fibSamples}
@@ -18,14 +20,25 @@ use Rattle.body_decode.proofs.BodyLaws.{half-length, right-length, two-
 use Rattle.body_decode.proofs.two_fibonacci.Statement.{statement}
 use Rattle.body_decode.proofs.two_fibonacci.Tie as tie
 
+abbrev entry : tie.After-slice-known → tie.Start
+entry c = c .before .before
+
+-- where the buffer is long enough
+abbrev fitting : tie.After-interleave-fibonacci-arg → tie.Else3
+fitting c = c .before .before .before
+
+-- the two halves
+abbrev halved : tie.After-slice-known2 → tie.After-right-half
+halved c = c .before .before .before .before
+
 returns : tie.Need-returns
 returns c =
-    let a = c .before .before .before .args in
+    let a = entry (c .before) .args in
     outcome-refused (twoChannels Fibonacci (a .frames) (a .body .now)) (a .out .now) oddHalves (two-odd (a .frames) (a .body .now) (c .if1 .taken))
 
 returns-2 : tie.Need-returns-2
 returns-2 c =
-    let a = c .before .before .before .before .args in
+    let a = entry (c .before .before) .args in
     outcome-refused (twoChannels Fibonacci (a .frames) (a .body .now)) (a .out .now) channelShort (two-short (a .frames) (a .body .now) (c .before .if1 .left) (c .if2 .taken))
 
 mul-available : tie.Need-mul-available
@@ -37,12 +50,37 @@ add-available c = search needs
 least-requires : tie.Need-least-requires
 least-requires c κs = search needs
 
--- the number of frames, by either side
-left-count : (c : tie.After-least) → c .least .result ≡ min (c .before .before .before .before .before .args .frames) (length (fibSamples (leftHalf (c .before .before .before .before .before .args .body .now))))
-left-count c = c .least .ensures ∙ rw (samples-length (leftHalf (c .before .before .before .before .before .args .body .now)), half-length (c .before .before .before .before .before .args .body .now))
+-- the samples of either side, the number of frames, and the bytes by turns
+module _ (e : tie.After-least) where
+  abbrev started : tie.Start
+  started = entry (e .before .before .before)
 
-right-count : (c : tie.After-least) → c .least .result ≡ min (c .before .before .before .before .before .args .frames) (length (fibSamples (rightHalf (c .before .before .before .before .before .args .body .now))))
-right-count c = c .least .ensures ∙ rw (samples-length (rightHalf (c .before .before .before .before .before .args .body .now)), right-length (c .before .before .before .before .before .args .body .now))
+  abbrev limit : ℕ
+  limit = started .args .frames
+
+  abbrev body : List ℕ
+  body = started .args .body .now
+
+  abbrev left : List ℤ
+  left = fibSamples (leftHalf body)
+
+  abbrev right : List ℤ
+  right = fibSamples (rightHalf body)
+
+  left-count : e .least .result ≡ min limit (length left)
+  left-count = e .least .ensures ∙ rw (samples-length (leftHalf body), half-length body)
+
+  right-count : e .least .result ≡ min limit (length right)
+  right-count = e .least .ensures ∙ rw (samples-length (rightHalf body), right-length body)
+
+  abbrev frames : List ℕ
+  frames = byTurns (frameBytes limit left) (frameBytes limit right)
+
+  whole : twoChannels Fibonacci limit body ≡ gives frames
+  whole = two-fibonacci-is limit body (e .before .before .if1 .left) (e .before .if2 .left)
+
+  count : e .least .result + e .least .result ≡ length frames
+  count = halves-length limit left right (e .least .result) left-count right-count
 
 add-length : tie.Need-add-length
 add-length c = search needs
@@ -50,13 +88,7 @@ add-length c = search needs
 returns-3 : tie.Need-returns-3
 returns-3 c =
     let e = c .before in
-    let a = e .before .before .before .before .before .args in
-    let limit = a .frames in
-    let body = a .body .now in
-    let n = e .least .result in
-    let ls = fibSamples (leftHalf body) in
-    let rs = fibSamples (rightHalf body) in
-    outcome-short (twoChannels Fibonacci limit body) (a .out .now) (byTurns (frameBytes limit ls) (frameBytes limit rs)) (two-fibonacci-is limit body (e .before .before .if1 .left) (e .before .if2 .left)) (n + n) (halves-length limit ls rs n (left-count e) (right-count e)) (c .if3 .taken)
+    outcome-short _ _ _ (whole e) _ (count e) (c .if3 .taken)
 
 left-half-requires : tie.Need-left-half-requires
 left-half-requires c κs = search needs
@@ -66,28 +98,28 @@ right-half-requires c κs = search needs
 
 interleave-fibonacci-requires : tie.Need-interleave-fibonacci-requires
 interleave-fibonacci-requires c κs =
-    let f = c .before .before .before in
+    let f = fitting c in
     let e = f .before in
-    let body = e .before .before .before .before .before .args .body .now in
-    rw (c .before .before .left-half .ensures .0, c .before .right-half .ensures .0)
-    (rw (half-length body) (e .before .if2 .left), rw (right-length body) (e .before .if2 .left), omega (arith, left-count e), omega (arith, right-count e), f .if3 .left)
+    rw (c .before .before .left-half .ensures .0, c .before .right-half .ensures .0) (
+      rw (half-length (body e)) (e .before .if2 .left),
+      rw (right-length (body e)) (e .before .if2 .left),
+      omega (arith, left-count e),
+      omega (arith, right-count e),
+      f .if3 .left,
+    )
 
 same-length : tie.Need-same-length
 same-length c = search needs
 
 returns-4 : tie.Need-returns-4
 returns-4 c =
-    let h = c .before .before .before .before in
+    let h = halved c in
     let f = h .before .before in
     let e = f .before in
-    let a = e .before .before .before .before .before .args in
-    let limit = a .frames in
-    let body = a .body .now in
-    let n = e .least .result in
-    let ls = fibSamples (leftHalf body) in
-    let rs = fibSamples (rightHalf body) in
-    let halves = rw (h .before .left-half .ensures .0, h .right-half .ensures .0) at (c .before .before .interleave-fibonacci .ensures) in
-    outcome-fits (twoChannels Fibonacci limit body) (a .out .now) (byTurns (frameBytes limit ls) (frameBytes limit rs)) (two-fibonacci-is limit body (e .before .before .if1 .left) (e .before .if2 .left)) (n + n) (halves-length limit ls rs n (left-count e) (right-count e)) _ (f .if3 .left) (halves ∙ ap (λ (l : List ℕ). written l (a .out .now)) (halves-are limit ls rs n (left-count e) (right-count e)))
+    let held = started e .args .out .now in
+    let halves = rw (h .before .left-half .ensures .0, halved, h .right-half .ensures .0) at (c .before .before .interleave-fibonacci .ensures) in
+    let all = halves-are (limit e) (left e) (right e) (e .least .result) (left-count e) (right-count e) in
+    outcome-fits _ held _ (whole e) _ (count e) _ (f .if3 .left) (halves ∙ ap (λ (l : List ℕ). written l held) all)
 
 pub two-fibonacci-spec : {M : Type 1} → statement M
 two-fibonacci-spec =

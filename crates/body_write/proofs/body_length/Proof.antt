@@ -7,6 +7,9 @@ use Rattle.body_write.proofs.BodyBytesLaws.{two-length, one-length}
 use Rattle.body_write.proofs.body_length.Statement.{statement}
 use Rattle.body_write.proofs.body_length.Tie as tie
 
+abbrev entry : tie.After-channel-length2 → tie.Start
+entry c = c .before .before .before
+
 channel-length-requires : tie.Need-channel-length-requires
 channel-length-requires c κs = search needs
 
@@ -18,7 +21,7 @@ add-result c = search needs
 
 returns : tie.Need-returns
 returns c =
-    let a = c .before .before .before .args in
+    let a = entry c .args in
     let both = two-length (a .c) (a .stereo) (now (a .left)) (now (a .right)) (c .before .if1 .taken) in
     (omega (arith, both, c .before .before .channel-length .ensures, c .channel-length2 .ensures), omega (arith, c .before .before .channel-length .ensures, c .channel-length2 .ensures))
 

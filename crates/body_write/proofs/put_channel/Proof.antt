@@ -8,6 +8,15 @@ use Rattle.body_write.specs.BodyBytes.{channelBytes}
 use Rattle.body_write.proofs.put_channel.Statement.{statement}
 use Rattle.body_write.proofs.put_channel.Tie as tie
 
+abbrev entry : tie.After-channel-length → tie.Start
+entry c = c .before .before
+
+abbrev raw-told : tie.After-slice-known2 → tie.After-enum-told
+raw-told c = c .before .before .before .before
+
+abbrev fibonacci-told : tie.After-slice-known3 → tie.After-enum-told2
+fibonacci-told c = c .before .before .before .before
+
 channel-length-requires : tie.Need-channel-length-requires
 channel-length-requires c κs = search needs
 
@@ -49,13 +58,13 @@ same-length c = search needs
 
 returns : tie.Need-returns
 returns c =
-    let s = c .before .before .before .before .before .before .before .before in
+    let s = entry (raw-told c .before .before) in
     let samples = now (s .args .samples) in
     part-put
     (channelBytes (s .args .c) samples) (now (s .args .d)) (s .args .at) _
-    (c .before .before .before .before .before .before .channel-length .ensures .0)
+    (raw-told c .before .before .channel-length .ensures .0)
     (s .pre .1) _ _
-    (channel-raw (s .args .c) samples (c .before .before .before .before .enum-told .given .1))
+    (channel-raw (s .args .c) samples (raw-told c .enum-told .given .1))
     (c .before .before .encode-raw .ensures .1)
 
 same-length-2 : tie.Need-same-length-2
@@ -63,13 +72,13 @@ same-length-2 c = search needs
 
 returns-2 : tie.Need-returns-2
 returns-2 c =
-    let s = c .before .before .before .before .before .before .before .before in
+    let s = entry (fibonacci-told c .before .before) in
     let samples = now (s .args .samples) in
     part-put
     (channelBytes (s .args .c) samples) (now (s .args .d)) (s .args .at) _
-    (c .before .before .before .before .before .before .channel-length .ensures .0)
+    (fibonacci-told c .before .before .channel-length .ensures .0)
     (s .pre .1) _ _
-    (channel-fibonacci (s .args .c) samples (c .before .before .before .before .enum-told2 .given .1))
+    (channel-fibonacci (s .args .c) samples (fibonacci-told c .enum-told2 .given .1))
     (c .before .before .fibonacci-encode-channel .ensures .1)
 
 pub put-channel-spec : {M : Type 1} → statement M

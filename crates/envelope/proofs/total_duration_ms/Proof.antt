@@ -19,7 +19,10 @@ abbrev μ-loop : tie.MeasureT-loop
 μ-loop points sum₀ at₀ sum at = length points - at
 
 -- the sum with the point that was read, and the points past it
-more : (c : tie.After-read-point Inv-loop μ-loop) → c .before .before .loop .sum + c .read-point .result .«duration_ms» + totalDuration (envelopePoints (drop (c .before .before .loop .at + 6) (c .before .before .before .before .args .points .now))) ≡ totalDuration (envelopePoints (c .before .before .before .before .args .points .now))
+more : (c : tie.After-read-point Inv-loop μ-loop) →
+    let l = c .before .before in
+    let points = l .before .before .args .points .now in
+    l .loop .sum + c .read-point .result .«duration_ms» + totalDuration (envelopePoints (drop (l .loop .at + 6) points)) ≡ totalDuration (envelopePoints points)
 more c =
     let l = c .before .before in
     omega (arith, l .loop .inv .2, total-more (l .before .before .args .points .now) (l .loop .at) (c .read-point .result) (c .read-point .ensures) (c .before .loop-test .taken))

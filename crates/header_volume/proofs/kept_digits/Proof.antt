@@ -12,6 +12,9 @@ use Rattle.header_volume.proofs.VolumeLaws.{digit-pos, digit-le, quotie
 use Rattle.header_volume.proofs.kept_digits.Statement.{statement}
 use Rattle.header_volume.proofs.kept_digits.Tie as tie
 
+abbrev entry : tie.Else2 → tie.Start
+entry c = c .before .before .before
+
 -- what is known of the unit, the quotient and the remainder
 record Known (v u : ℕ) : Type 0 where
   is : u ≡ lowestDigit v
@@ -58,7 +61,7 @@ add-result-2 c = omega (arith, known (c .before .before))
 
 returns-3 : tie.Need-returns-3
 returns-3 c =
-    let v = c .before .before .before .args .volume in
+    let v = entry c .args .volume in
     let u = c .before .before .lowest-digit .result in
     let h : u < v % u * 2 = omega (arith, c .before .if1 .left, lt-of-le-ne (c .before .if1 .left) (λ e. c .if2 .left (sym e))) in
     add-one (v / u) ∙ sym (closest-above v u h) ∙ kept-is v u (known (c .before .before) .is)

@@ -10,6 +10,9 @@ use Rattle.header_volume.proofs.VolumeLaws.{digit-pos, kept-le, divided
 use Rattle.header_volume.proofs.volume_f32.Statement.{statement}
 use Rattle.header_volume.proofs.volume_f32.Tie as tie
 
+abbrev digit : tie.After-kept-digits → tie.After-lowest-digit
+digit c = c .before
+
 lowest-digit-requires : tie.Need-lowest-digit-requires
 lowest-digit-requires c κs = search needs
 
@@ -21,19 +24,19 @@ div-d c = rw (c .before .lowest-digit .ensures) (digit-pos (c .before .before .a
 
 int-to-float-result : tie.Need-int-to-float-result
 unfolding inFloat
-int-to-float-result c = rw (c .before .kept-digits .ensures) (le→leb _ (2 ^ 24) (kept-le (c .before .before .before .args .volume)))
+int-to-float-result c = rw (c .before .kept-digits .ensures) (le→leb _ (2 ^ 24) (kept-le (digit (c .before) .before .args .volume)))
 
 int-to-float-result-2 : tie.Need-int-to-float-result-2
 unfolding inFloat
 int-to-float-result-2 c =
-    let u = c .before .before .before .lowest-digit .result in
+    let u = digit (c .before .before) .lowest-digit .result in
     le→leb (65536 / u) (2 ^ 24) (le-trans (div-le-self 65536 u) (lit≤ tt))
 
 returns : tie.Need-returns
 returns c =
-    let v = c .before .before .before .before .args .volume in
-    rw (c .before .before .kept-digits .ensures, c .before .before .before .lowest-digit .ensures)
-    (divided v (c .before .before .before .before .fits .volume .fits) (le-trans (div-le-self 65536 (lowestDigit v)) (lit≤ tt)))
+    let v = digit (c .before .before) .before .args .volume in
+    rw (c .before .before .kept-digits .ensures, digit (c .before .before) .lowest-digit .ensures)
+    (divided v (digit (c .before .before) .before .fits .volume .fits) (le-trans (div-le-self 65536 (lowestDigit v)) (lit≤ tt)))
 
 pub volume-f32-spec : {M : Type 1} → statement M
 volume-f32-spec = tie.close (tie.spec lowest-digit-requires kept-digits-requires div-d int-to-float-result int-to-float-result-2 returns)

@@ -4,11 +4,21 @@ use mathlib.Core.Path.{sym, _∙_}
 use lib.ListN.{take}
 use Rattle.refusal.proofs.OutcomeLaws.{outcome-refused, outcome-fits, outcome-short}
 use Rattle.body_read.specs.Sides.{channelSamples}
-use Rattle.body_read.specs.Answers.{streamSamples}
+use Rattle.body_read.specs.Helpers.{streamSamples}
 use Rattle.body_read.proofs.ChannelLaws.{Channel, count-refused, channel-gives}
 use borrow.Author.Needs.{needs}
 use Rattle.body_read.proofs.decode.decode_channel.Statement.{statement}
 use Rattle.body_read.proofs.decode.decode_channel.Tie as tie
+
+abbrev entry : tie.After-channel-length → tie.Start
+entry c = c .before .before
+
+-- where the buffer is long enough
+abbrev fitting : tie.After-out → tie.Else1
+fitting c = c .before .before .before
+
+abbrev counted : tie.After-decode-stream-arg → tie.After-n
+counted c = c .before .before .before
 
 channel-length-requires : tie.Need-channel-length-requires
 channel-length-requires c κs = search needs
@@ -20,26 +30,26 @@ enum-known-n : tie.Need-enum-known-n
 enum-known-n c = search needs
 
 -- a channel of n samples
-channel : (c : tie.After-n) → Channel (c .before .before .before .before .args .h) (c .before .before .before .before .args .c) (c .before .before .before .before .args .bytes .now) (c .n .given .0 .0)
-channel c =
-    let a = c .before .before .before .before .args in
-    channel-gives (a .h) (a .c) (a .bytes .now) (c .n .given .0 .0) (sym (c .before .before .channel-length .ensures) ∙ c .n .given .1)
+channel : (e : tie.After-n) →
+    let a = entry (e .before .before) .args in
+    Channel (a .h) (a .c) (a .bytes .now) (e .n .given .0 .0)
+channel e =
+    let a = entry (e .before .before) .args in
+    channel-gives (a .h) (a .c) (a .bytes .now) (e .n .given .0 .0) (sym (e .before .before .channel-length .ensures) ∙ e .n .given .1)
 
 returns : tie.Need-returns
 returns c =
     let e = c .before .before in
-    let a = e .before .before .before .before .args in
-    let n = e .n .given .0 .0 in
-    outcome-short (channelSamples (a .h) (a .c) (a .bytes .now)) (a .out .now) (take n (streamSamples (a .c) (a .bytes .now))) (channel e .is) n (sym (channel e .long)) (c .if1 .taken)
+    outcome-short _ _ _ (channel e .is) _ (sym (channel e .long)) (c .if1 .taken)
 
 decode-stream-requires : tie.Need-decode-stream-requires
 decode-stream-requires c κs =
-    (channel (c .before .before .before) .has, c .before .if1 .left)
+    (channel (counted c) .has, c .before .if1 .left)
 
 returns-2 : tie.Need-returns-2
 returns-2 c =
     let e = c .before in
-    let a = e .before .before .before .before .args in
+    let a = entry (e .before .before) .args in
     let o = channelSamples (a .h) (a .c) (a .bytes .now) in
     let n = e .number .given .0 .0 in
     outcome-refused o (a .out .now) n (count-refused o n (sym (e .before .before .channel-length .ensures) ∙ e .number .given .1))
@@ -49,11 +59,9 @@ same-length c = search needs
 
 returns-3 : tie.Need-returns-3
 returns-3 c =
-    let f = c .before .before .before in
+    let f = fitting c in
     let e = f .before .before in
-    let a = e .before .before .before .before .args in
-    let n = e .n .given .0 .0 in
-    outcome-fits (channelSamples (a .h) (a .c) (a .bytes .now)) (a .out .now) (take n (streamSamples (a .c) (a .bytes .now))) (channel e .is) n (sym (channel e .long)) _ (f .if1 .left) (c .before .decode-stream .ensures)
+    outcome-fits _ _ _ (channel e .is) _ (sym (channel e .long)) _ (f .if1 .left) (c .before .decode-stream .ensures)
 
 pub decode-channel-spec : {M : Type 1} → statement M
 decode-channel-spec =

@@ -6,6 +6,9 @@ use borrow.Author.Needs.{needs}
 use Rattle.body_read.proofs.lengths.channel_length.Statement.{statement}
 use Rattle.body_read.proofs.lengths.channel_length.Tie as tie
 
+abbrev entry : tie.After-stream-length → tie.Start
+entry c = c .before .before
+
 stream-length-requires : tie.Need-stream-length-requires
 stream-length-requires c κs = search needs
 
@@ -21,13 +24,13 @@ kept-length-requires c κs = search needs
 returns : tie.Need-returns
 returns c =
     let e = c .before in
-    let a = e .before .before .before .before .args in
+    let a = entry (e .before .before) .args in
     sym (channel-count (a .h) (a .c) (a .bytes .now) ∙ ap (keptCount (a .h)) (sym (e .before .before .stream-length .ensures) ∙ e .number .given .1))
 
 returns-2 : tie.Need-returns-2
 returns-2 c =
     let e = c .before .before in
-    let a = e .before .before .before .before .args in
+    let a = entry (e .before .before) .args in
     c .kept-length .ensures ∙ sym (channel-count (a .h) (a .c) (a .bytes .now) ∙ ap (keptCount (a .h)) (sym (e .before .before .stream-length .ensures) ∙ e .n .given .1))
 
 pub channel-length-spec : {M : Type 1} → statement M

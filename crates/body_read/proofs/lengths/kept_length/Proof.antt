@@ -10,6 +10,18 @@ use borrow.Author.Needs.{needs}
 use Rattle.body_read.proofs.lengths.kept_length.Statement.{statement}
 use Rattle.body_read.proofs.lengths.kept_length.Tie as tie
 
+abbrev entry : tie.After-total-samples-per-channel → tie.Start
+entry c = c .before
+
+abbrev totalled : tie.After-known-told2 → tie.After-total-samples-per-channel
+totalled c = c .before .before .before
+
+abbrev past : tie.Else1 → tie.After-known-told2
+past c = c .before .before
+
+abbrev refused : tie.After-known-told → tie.After-total-samples-per-channel
+refused c = c .before .before .before
+
 total-samples-per-channel-requires : tie.Need-total-samples-per-channel-requires
 total-samples-per-channel-requires c κs = search needs
 
@@ -23,37 +35,37 @@ hi-octave-samples-requires : tie.Need-hi-octave-samples-requires
 hi-octave-samples-requires c κs = search needs
 
 -- the total that the match found
-known : (c : tie.After-known-told2) → (totalSamples (c .before .before .before .before .args .h) < 2 ^ 64) × (totalSamples (c .before .before .before .before .args .h) ≡ c .before .total .given .0 .0)
-known c = total-is (c .before .before .before .before .args .h) (c .before .total .given .0 .0) (sym (c .before .before .before .total-samples-per-channel .ensures) ∙ c .before .total .given .1)
+known : (c : tie.After-known-told2) → (totalSamples (entry (totalled c) .args .h) < 2 ^ 64) × (totalSamples (entry (totalled c) .args .h) ≡ c .before .total .given .0 .0)
+known c = total-is (entry (totalled c) .args .h) (c .before .total .given .0 .0) (sym (totalled c .total-samples-per-channel .ensures) ∙ c .before .total .given .1)
 
 -- hi is not 0
-some : (c : tie.Else1) → hi (c .before .before .before .before .before .before .args .h) ≡ 0 → ⊥
+some : (c : tie.Else1) → hi (entry (totalled (past c)) .args .h) ≡ 0 → ⊥
 some c e = c .if1 .left (c .before .hi-octave-samples .ensures ∙ e)
 
 returns : tie.Need-returns
 returns c =
     let f = c .before .before in
-    let a = f .before .before .before .before .args in
+    let a = entry (totalled f) .args in
     let zero : hi (a .h) ≡ 0 = sym (c .before .hi-octave-samples .ensures) ∙ c .if1 .taken in
     rw (lt-ltb (totalSamples (a .h)) (2 ^ 64) (known f .0), eq-eqb (hi (a .h)) 0 zero)
 
 returns-2 : tie.Need-returns-2
 returns-2 c =
-    let f = c .before .before .before in
-    let a = f .before .before .before .before .args in
+    let f = past (c .before) in
+    let a = entry (totalled f) .args in
     let short : a .n < totalSamples (a .h) = rw (known f .1) (c .if2 .taken) in
     rw (lt-ltb (totalSamples (a .h)) (2 ^ 64) (known f .0), ne-eqb (hi (a .h)) 0 (some (c .before)), lt-ltb (a .n) (totalSamples (a .h)) short)
 
 returns-3 : tie.Need-returns-3
 returns-3 c =
-    let a = c .before .before .before .before .args in
-    let large = total-not (a .h) (c .before .number .given .0 .0) (sym (c .before .before .before .total-samples-per-channel .ensures) ∙ c .before .number .given .1) in
+    let a = entry (refused c) .args in
+    let large = total-not (a .h) (c .before .number .given .0 .0) (sym (refused c .total-samples-per-channel .ensures) ∙ c .before .number .given .1) in
     rw (le-ltb (totalSamples (a .h)) (2 ^ 64) (large .0)) (ap Refused (sym (large .1)))
 
 returns-4 : tie.Need-returns-4
 returns-4 c =
-    let f = c .before .before .before in
-    let a = f .before .before .before .before .args in
+    let f = past (c .before) in
+    let a = entry (totalled f) .args in
     let long : totalSamples (a .h) ≤ a .n = rw (known f .1) (c .if2 .left) in
     rw (lt-ltb (totalSamples (a .h)) (2 ^ 64) (known f .0), ne-eqb (hi (a .h)) 0 (some (c .before)), le-ltb (a .n) (totalSamples (a .h)) long) (ap Samples (sym (known f .1)))
 

@@ -9,9 +9,15 @@ use borrow.Author.Needs.{needs}
 use Rattle.body_read.proofs.lengths.side_lengths.Statement.{statement}
 use Rattle.body_read.proofs.lengths.side_lengths.Tie as tie
 
+abbrev entry : tie.After-compression → tie.Start
+entry c = c .before .before
+
+abbrev compressed : tie.After-known-told2 → tie.After-compression
+compressed c = c .before .before .before
+
 -- the compression that is known
-found : (c : tie.After-known-told2) → knownCompression (c .before .before .before .before .before .args .h .«compression_byte») ≡ Known (c .before .c .given .0 .0)
-found c = sym (c .before .before .before .compression .ensures) ∙ c .before .c .given .1
+found : (c : tie.After-known-told2) → knownCompression (entry (compressed c) .args .h .«compression_byte») ≡ Known (c .before .c .given .0 .0)
+found c = sym (compressed c .compression .ensures) ∙ c .before .c .given .1
 
 compression-requires : tie.Need-compression-requires
 compression-requires c κs = search needs
@@ -28,7 +34,7 @@ two-lengths-requires c κs = search needs
 returns : tie.Need-returns
 returns c =
     let f = c .before .before in
-    let a = f .before .before .before .before .before .args in
+    let a = entry (compressed f) .args in
     c .two-lengths .ensures ∙ sym (ap sideLengthsOf (sides-two (a .h) (a .stereo) (a .body .now) (f .before .c .given .0 .0) (found f) (c .before .if1 .taken)))
 
 one-length-requires : tie.Need-one-length-requires
@@ -37,13 +43,13 @@ one-length-requires c κs = search needs
 returns-2 : tie.Need-returns-2
 returns-2 c =
     let e = c .before in
-    let a = e .before .before .before .before .args in
+    let a = entry (e .before .before) .args in
     sym (ap sideLengthsOf (sides-unknown (a .h) (a .stereo) (a .body .now) (e .number .given .0 .0) (sym (e .before .before .compression .ensures) ∙ e .number .given .1)))
 
 returns-3 : tie.Need-returns-3
 returns-3 c =
     let f = c .before .before in
-    let a = f .before .before .before .before .before .args in
+    let a = entry (compressed f) .args in
     c .one-length .ensures ∙ sym (ap sideLengthsOf (sides-one (a .h) (a .stereo) (a .body .now) (f .before .c .given .0 .0) (found f) (c .before .if1 .left)))
 
 pub side-lengths-spec : {M : Type 1} → statement M

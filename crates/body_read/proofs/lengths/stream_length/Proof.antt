@@ -4,11 +4,14 @@ use mathlib.Core.Path.{sym, ap, _∙_}
 use borrow.Author.Tests.{le-ltb}
 use lib.ListN.{length}
 use Rattle.header.specs.declared.compression.Compression.the-variants.{None, Fibonacci}
-use Rattle.body_read.specs.Answers.{sampleCountOf}
+use Rattle.body_read.specs.Helpers.{sampleCountOf}
 use Rattle.body_read.proofs.ChannelLaws.{stream-refused, stream-count}
 use borrow.Author.Needs.{needs}
 use Rattle.body_read.proofs.lengths.stream_length.Statement.{statement}
 use Rattle.body_read.proofs.lengths.stream_length.Tie as tie
+
+abbrev entry : tie.After-enum-told2 → tie.Start
+entry c = c .before .before
 
 enum-told : tie.Need-enum-told
 enum-told c = search needs
@@ -18,7 +21,7 @@ enum-told-2 c = search needs
 
 returns : tie.Need-returns
 returns c =
-    let a = c .before .before .before .args in
+    let a = entry (c .before) .args in
     rw (c .before .enum-told2 .given .1) (sym (ap sampleCountOf (stream-refused (a .bytes .now) (c .if1 .taken))))
 
 mul-samples : tie.Need-mul-samples
@@ -34,7 +37,7 @@ returns-2 c =
 
 returns-3 : tie.Need-returns-3
 returns-3 c =
-    let a = c .before .before .before .args in
+    let a = entry (c .before) .args in
     rw (c .before .enum-told2 .given .1) (sym (stream-count Fibonacci (a .bytes .now) ∙ rw (le-ltb (length (a .bytes .now)) 2 (c .if1 .left))))
 
 pub stream-length-spec : {M : Type 1} → statement M

@@ -26,15 +26,25 @@ Inv-loop body out₀ n prev₀ pairs j₀ out prev j =
 abbrev μ-loop : tie.MeasureT-loop
 μ-loop body out₀ n prev₀ pairs j₀ out prev j = pairs - j
 
+-- the function's entry, the turn of the loop, and its end
+abbrev entry : tie.After-sample-of-byte Inv-loop μ-loop → tie.Start Inv-loop μ-loop
+entry c = c .before .before .before .before
+
+abbrev turn : tie.After-fib-step Inv-loop μ-loop → tie.At-loop Inv-loop μ-loop
+turn c = c .before .before .before
+
+abbrev loop-end : tie.After-shared-slice-known4 Inv-loop μ-loop → tie.At-loop Inv-loop μ-loop
+loop-end c = c .before .before .before
+
 -- the bytes, what the buffer held before the first sample was stored, and how many samples are asked for
 abbrev body : tie.At-loop Inv-loop μ-loop → List ℕ
-body l = l .before .before .before .before .before .args .body .now
+body l = entry (l .before) .args .body .now
 
 abbrev held : tie.At-loop Inv-loop μ-loop → List ℤ
-held l = l .before .before .before .before .before .args .out .now
+held l = entry (l .before) .args .out .now
 
 abbrev count : tie.At-loop Inv-loop μ-loop → ℕ
-count l = l .before .before .before .before .before .args .n
+count l = entry (l .before) .args .n
 
 module _ (l : tie.At-loop Inv-loop μ-loop) where
   same-room : length (l .loop .out) ≡ length (held l)
@@ -60,7 +70,7 @@ sub-pairs c = search needs
 
 loop-holds : tie.Need-loop-holds Inv-loop μ-loop
 loop-holds c =
-    let a = c .before .before .before .before .args in
+    let a = entry c .args in
     let first = toZ w8 (ofZ w8 (c .sample-of-byte .result)) in
     let first-is = back w8 (c .sample-of-byte .ok) ∙ c .sample-of-byte .ensures in
     (omega arith, refl, first-stored (a .body .now) first first-is (a .out .now) (omega arith) ∙ rw (drop-set-lt 1 (a .out .now) 0 first (omega arith)), first-left (a .body .now) _ first-is)
@@ -75,7 +85,7 @@ fib-step-requires : tie.Need-fib-step-requires Inv-loop μ-loop
 fib-step-requires c κs = omega (arith, c .shared-slice-known3 .given (2 + c .before .before .loop .j))
 
 fib-step-requires-2 : tie.Need-fib-step-requires-2 Inv-loop μ-loop
-fib-step-requires-2 c κs = omega (arith, c .before .shared-slice-known3 .given (2 + c .before .before .before .loop .j))
+fib-step-requires-2 c κs = omega (arith, c .before .shared-slice-known3 .given (2 + turn c .loop .j))
 
 mul-i : tie.Need-mul-i Inv-loop μ-loop
 mul-i c = omega arith
@@ -90,10 +100,10 @@ add-k : tie.Need-add-k Inv-loop μ-loop
 add-k c = omega arith
 
 slice-set-from-high : tie.Need-slice-set-from-high Inv-loop μ-loop
-slice-set-from-high c = omega (arith, same-room (c .before .before .before .before))
+slice-set-from-high c = omega (arith, same-room (turn (c .before)))
 
 slice-set-from-low : tie.Need-slice-set-from-low Inv-loop μ-loop
-slice-set-from-low c = simp length-set (omega (arith, same-room (c .before .before .before .before)))
+slice-set-from-low c = simp length-set (omega (arith, same-room (turn (c .before))))
 
 add-j : tie.Need-add-j Inv-loop μ-loop
 add-j c = omega arith
@@ -103,7 +113,7 @@ loop-less c = omega arith
 
 loop-again : tie.Need-loop-again Inv-loop μ-loop
 loop-again c =
-    let at = c .before .before .before .before in
+    let at = turn (c .before) in
     let l = at .loop in
     let high-is = back w8 (c .before .fib-step .ok) ∙ c .before .fib-step .ensures in
     let low-is = back w8 (c .fib-step2 .ok) ∙ c .fib-step2 .ensures in
@@ -118,23 +128,23 @@ add-at-2 : tie.Need-add-at-2 Inv-loop μ-loop
 add-at-2 c = omega arith
 
 shared-slice-read-b-2 : tie.Need-shared-slice-read-b-2 Inv-loop μ-loop
-shared-slice-read-b-2 c = omega (arith, samples-length (body (c .before .before .before)))
+shared-slice-read-b-2 c = omega (arith, samples-length (body (loop-end c)))
 
 sub-last : tie.Need-sub-last Inv-loop μ-loop
 sub-last c = omega arith
 
 fib-step-requires-3 : tie.Need-fib-step-requires-3 Inv-loop μ-loop
-fib-step-requires-3 c κs = omega (arith, c .shared-slice-known4 .given (2 + (count (c .before .before .before) - 1) / 2))
+fib-step-requires-3 c κs = omega (arith, c .shared-slice-known4 .given (2 + (count (loop-end c) - 1) / 2))
 
 slice-set-from-out : tie.Need-slice-set-from-out Inv-loop μ-loop
-slice-set-from-out c = omega (arith, same-room (c .before .before .before .before))
+slice-set-from-out c = omega (arith, same-room (loop-end (c .before)))
 
 same-length : tie.Need-same-length Inv-loop μ-loop
-same-length c = simp length-set (same-room (c .before .before .before .before))
+same-length c = simp length-set (same-room (loop-end (c .before)))
 
 returns-2 : tie.Need-returns-2 Inv-loop μ-loop
 returns-2 c =
-    let at = c .before .before .before .before in
+    let at = loop-end (c .before) in
     let l = at .loop in
     let all-pairs : (count at - 1) / 2 ≡ l .j = omega arith in
     let last : 2 * l .j + 1 ≡ count at - 1 = omega arith in

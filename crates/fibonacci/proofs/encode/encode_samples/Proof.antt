@@ -27,18 +27,33 @@ Inv-loop samples out₀ n prev₀ pairs j₀ out prev j =
 abbrev μ-loop : tie.MeasureT-loop
 μ-loop samples out₀ n prev₀ pairs j₀ out prev j = pairs - j
 
+-- the function's entry, the turn of the loop, and its end
+abbrev entry : tie.After-byte-of-sample Inv-loop μ-loop → tie.Start Inv-loop μ-loop
+entry c = c .before .before .before
+
+abbrev turn : tie.After-pack-pair Inv-loop μ-loop → tie.At-loop Inv-loop μ-loop
+turn c = c .before .before .before .before
+
+abbrev loop-end : tie.After-fib-pick-nibble-arg Inv-loop μ-loop → tie.At-loop Inv-loop μ-loop
+loop-end c = c .before .before .before
+
+abbrev first-read : tie.After-struct-told Inv-loop μ-loop → tie.After-pack-pair-arg Inv-loop μ-loop
+first-read c = c .before .before .before
+
 -- the samples, and what the buffer held before the first two bytes were stored
 abbrev channel : tie.At-loop Inv-loop μ-loop → List ℤ
-channel l = l .before .before .before .before .args .samples .now
+channel l = entry (l .before) .args .samples .now
 
 abbrev held : tie.At-loop Inv-loop μ-loop → List ℕ
-held l = l .before .before .before .before .args .out .now
+held l = entry (l .before) .args .out .now
 
 module _ (l : tie.At-loop Inv-loop μ-loop) where
   same-room : length (l .loop .out) ≡ length (held l)
   same-room = l .loop .inv .1 ∙ simp length-set
 
-  ended : (out : List ℕ) (byte n : ℕ) → n ≡ length (fibBytes (channel l)) → out ≡ take n (fibBytes (channel l)) ++ drop n (set (set (held l) 0 0) 1 byte) → out ≡ written (fibBytes (channel l)) (held l)
+  ended :
+      (out : List ℕ) (byte n : ℕ) → n ≡ length (fibBytes (channel l)) →
+      out ≡ take n (fibBytes (channel l)) ++ drop n (set (set (held l) 0 0) 1 byte) → out ≡ written (fibBytes (channel l)) (held l)
   ended out byte n e is =
       let past : 1 < n = omega (arith, bytes-length (channel l)) in
       is ∙ rw (drop-set-lt n (set (held l) 0 0) 1 byte past, drop-set-lt n (held l) 0 0 (omega arith)) (prefix-whole (fibBytes (channel l)) (held l) n e)
@@ -60,7 +75,7 @@ sub-pairs c = search needs
 
 loop-holds : tie.Need-loop-holds Inv-loop μ-loop
 loop-holds c =
-    let a = c .before .before .before .args in
+    let a = entry c .args in
     let samples = a .samples .now in
     let first = toZ w8 (ofZ w8 (getD samples 0 (pos 0))) in
     let first-is : first ≡ getD samples 0 (pos 0) = back w8 (c .before .prev .given) in
@@ -93,7 +108,7 @@ add-at : tie.Need-add-at Inv-loop μ-loop
 add-at c = omega arith
 
 slice-write-out-3 : tie.Need-slice-write-out-3 Inv-loop μ-loop
-slice-write-out-3 c = omega (arith, same-room (c .before .before .before .before))
+slice-write-out-3 c = omega (arith, same-room (turn c))
 
 add-j : tie.Need-add-j Inv-loop μ-loop
 add-j c = omega arith
@@ -103,9 +118,9 @@ loop-less c = omega arith
 
 loop-again : tie.Need-loop-again Inv-loop μ-loop
 loop-again c =
-    let at = c .before .before .before .before .before in
+    let at = turn (c .before) in
     let l = at .loop in
-    let a-is = back w8 {z = getD (channel at) (2 * l .j + 1) (pos 0)} (c .before .before .before .pack-pair-arg .given) in
+    let a-is = back w8 {z = getD (channel at) (2 * l .j + 1) (pos 0)} (first-read c .pack-pair-arg .given) in
     let b-is = back w8 {z = getD (channel at) (2 * l .j + 2) (pos 0)} (c .before .before .pack-pair-arg2 .given) in
     let more : 2 * l .j + 2 < length (channel at) = omega arith in (
       omega arith,
@@ -137,20 +152,22 @@ add-out : tie.Need-add-out Inv-loop μ-loop
 add-out c = omega (arith, below c)
 
 slice-write-out-4 : tie.Need-slice-write-out-4 Inv-loop μ-loop
-slice-write-out-4 c = omega (arith, same-room (c .before .before .before .before))
+slice-write-out-4 c = omega (arith, same-room (loop-end (c .before)))
 
 same-length : tie.Need-same-length Inv-loop μ-loop
-same-length c = simp length-set (same-room (c .before .before .before .before))
+same-length c = simp length-set (same-room (loop-end (c .before)))
 
 returns : tie.Need-returns Inv-loop μ-loop
 returns c =
-    let at = c .before .before .before .before in
+    let at = loop-end (c .before) in
     let l = at .loop in
     let all-pairs : (length (channel at) - 1) / 2 ≡ l .j = omega arith in
     let last : length (channel at) - 1 ≡ 2 * l .j + 1 = omega arith in
-    let a-is = back w8 {z = getD (channel at) (length (channel at) - 1) (pos 0)} (c .before .fib-pick-nibble-arg .given) ∙ ap (λ (k : ℕ). getD (channel at) k (pos 0)) last in
+    let sample : ℕ → ℤ = λ k. getD (channel at) k (pos 0) in
+    let a-is = back w8 {z = sample (length (channel at) - 1)} (c .before .fib-pick-nibble-arg .given) ∙ ap sample last in
     let end : 2 + l .j + 1 ≡ length (fibBytes (channel at)) = omega (arith, bytes-length (channel at)) in
-    ended at _ (at .before .byte-of-sample .result) (2 + l .j + 1) end (rw (all-pairs, c .fib-pick-nibble .ensures) (last-stored (channel at) _ (l .j) _ (l .inv .3) _ (omega arith) a-is _ _ (l .inv .2) (omega (arith, same-room at))))
+    let stored = last-stored (channel at) _ (l .j) _ (l .inv .3) _ (omega arith) a-is _ _ (l .inv .2) (omega (arith, same-room at)) in
+    ended at _ (at .before .byte-of-sample .result) (2 + l .j + 1) end (rw (all-pairs, c .fib-pick-nibble .ensures) stored)
 
 same-length-2 : tie.Need-same-length-2 Inv-loop μ-loop
 same-length-2 c = same-room (c .before .before)

@@ -10,6 +10,13 @@ use borrow.Author.Needs.{needs}
 use Rattle.fibonacci.proofs.encode.fibonacci_encode_channel.Statement.{statement}
 use Rattle.fibonacci.proofs.encode.fibonacci_encode_channel.Tie as tie
 
+abbrev entry : tie.Then2 → tie.Start
+entry c = c .before .before .before
+
+-- where the buffer is long enough
+abbrev fitting : tie.After-slice-known2 → tie.Else1
+fitting c = c .before .before .before .before .before
+
 add-length : tie.Need-add-length
 add-length c = search needs
 
@@ -29,7 +36,7 @@ same-length c = search needs
 
 returns-2 : tie.Need-returns-2
 returns-2 c =
-    let a = c .before .before .before .args in
+    let a = entry c .args in
     output-fits (fibBytes (a .samples .now)) (a .out .now) _ (sym (bytes-length (a .samples .now))) _ (c .before .if1 .left) (none-stored (a .samples .now) (a .out .now) (c .if2 .taken) (omega arith))
 
 encode-samples-requires : tie.Need-encode-samples-requires
@@ -40,8 +47,8 @@ same-length-2 c = search needs
 
 returns-3 : tie.Need-returns-3
 returns-3 c =
-    let a = c .before .before .before .before .before .before .before .args in
-    output-fits (fibBytes (a .samples .now)) (a .out .now) _ (sym (bytes-length (a .samples .now))) _ (c .before .before .before .before .before .if1 .left) (c .before .before .encode-samples .ensures)
+    let a = fitting c .before .before .args in
+    output-fits (fibBytes (a .samples .now)) (a .out .now) _ (sym (bytes-length (a .samples .now))) _ (fitting c .if1 .left) (c .before .before .encode-samples .ensures)
 
 pub fibonacci-encode-channel-spec : {M : Type 1} → statement M
 fibonacci-encode-channel-spec =

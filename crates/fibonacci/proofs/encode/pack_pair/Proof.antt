@@ -10,6 +10,9 @@ use Rattle.fibonacci.proofs.PickLaws.{pick-below}
 use Rattle.fibonacci.proofs.encode.pack_pair.Statement.{statement}
 use Rattle.fibonacci.proofs.encode.pack_pair.Tie as tie
 
+abbrev high-picked : tie.After-fib-step2 → tie.After-fib-pick-nibble
+high-picked c = c .before .before .before
+
 high-below : (c : tie.After-fib-pick-nibble) → c .fib-pick-nibble .result < 16
 high-below c = rw (c .fib-pick-nibble .ensures) (pick-below _ _)
 
@@ -29,14 +32,14 @@ fib-step-requires-2 : tie.Need-fib-step-requires-2
 fib-step-requires-2 c κs = low-below c
 
 mul-byte : tie.Need-mul-byte
-mul-byte c = omega (arith, high-below (c .before .before .before), low-below (c .before))
+mul-byte c = omega (arith, high-below (high-picked c), low-below (c .before))
 
 add-byte : tie.Need-add-byte
-add-byte c = omega (arith, high-below (c .before .before .before), low-below (c .before))
+add-byte c = omega (arith, high-below (high-picked c), low-below (c .before))
 
 returns : tie.Need-returns
 returns c =
-    let start = c .before .before .before .before in
+    let start = high-picked c .before in
     let middle = c .before .before in
     rw (
       back w8 (c .fib-step2 .ok),

@@ -6,10 +6,19 @@ use mir.Syntax.{w16}
 use mir.Val.{toZ, ofZ}
 use mir.Facts.{toZ-ofZ}
 use Rattle.laws.proofs.Signed.{zarith, back}
-use Rattle.fibonacci.specs.Pick.{nearestDelta}
+use Rattle.fibonacci.specs.Helpers.{nearestDelta}
 use Rattle.fibonacci.proofs.PickLaws.{pick-first, pick-last, pick-free}
 use Rattle.fibonacci.proofs.pick.fib_pick_nibble.Statement.{statement}
 use Rattle.fibonacci.proofs.pick.fib_pick_nibble.Tie as tie
+
+abbrev changed : tie.Joined3 → tie.After-difference
+changed c = c .before .before .before
+
+abbrev free : tie.After-nearest-delta → tie.After-difference
+free c = c .before .before .before .before .before
+
+abbrev entry : tie.Then2 → tie.Start
+entry c = c .before .before .before
 
 difference-requires : tie.Need-difference-requires
 difference-requires c κs = tt
@@ -24,15 +33,15 @@ returns c =
 
 returns-2 : tie.Need-returns-2
 returns-2 c =
-    let s = c .before .before .before in
+    let s = entry c in
     pick-last (s .args .prev) (s .args .target) (s .fits .target) (s .fits .prev) (omega (zarith, change-is (c .before .before), c .if2 .taken))
 
 pick-near-end-requires : tie.Need-pick-near-end-requires
-pick-near-end-requires c κs = (back w16 (c .before .before .before .difference .ok) ∙ c .before .before .before .difference .ensures, omega zarith, omega zarith)
+pick-near-end-requires c κs = (back w16 (changed c .difference .ok) ∙ changed c .difference .ensures, omega zarith, omega zarith)
 
 returns-3 : tie.Need-returns-3
 returns-3 c =
-    let s = c .before .before .before .before .before in
+    let s = changed (c .before) .before in
     rw (toZ-ofZ (s .fits .prev), toZ-ofZ (s .fits .target)) at (c .pick-near-end .ensures)
 
 nearest-delta-requires : tie.Need-nearest-delta-requires
@@ -40,7 +49,7 @@ nearest-delta-requires c κs = (omega zarith, omega zarith)
 
 returns-4 : tie.Need-returns-4
 returns-4 c =
-    let d = c .before .before .before .before .before in
+    let d = free c in
     let s = d .before in
     let read = toZ-ofZ (s .fits .prev) in
     c .nearest-delta .ensures ∙ ap nearestDelta (change-is d) ∙ pick-free (s .args .prev) (s .args .target) (omega zarith) (omega zarith)

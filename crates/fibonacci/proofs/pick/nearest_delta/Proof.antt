@@ -12,7 +12,8 @@ use mir.Val.{SFits, toZ, ofZ}
 use mir.Facts.{toZ-ofZ}
 use Rattle.laws.proofs.Signed.{zarith, known, sum, diff, abs-parts}
 use Rattle.fibonacci.specs.Step.{deltas}
-use Rattle.fibonacci.specs.Pick.{argmin, nearestDelta}
+use Rattle.fibonacci.specs.Pick.{argmin}
+use Rattle.fibonacci.specs.Helpers.{nearestDelta}
 use Rattle.fibonacci.proofs.pick.nearest_delta.Statement.{statement}
 use Rattle.fibonacci.proofs.pick.nearest_delta.Tie as tie
 
@@ -27,16 +28,20 @@ tabulated-at f (suc n) zero h = refl
 tabulated-at f (suc n) (suc k) h = tabulated-at (λ m. f (suc m)) n k (le-of-suc-le-suc h)
 
 module _ (s : tie.Start) where
+  -- the change past -33, as the code has it
+  abbrev past : ℤ
+  past = toZ w16 (ofZ w16 (toZ w16 (ofZ w16 (s .args .change)) +ℤ pos 33))
+
   past-fits : SFits w16 (s .args .change +ℤ pos 33)
   past-fits = omega (zarith, sum (s .args .change) (pos 33), known (s .fits .change), s .pre)
 
-  past-is : toZ w16 (ofZ w16 (toZ w16 (ofZ w16 (s .args .change)) +ℤ pos 33)) ≡ s .args .change +ℤ pos 33
+  past-is : past ≡ s .args .change +ℤ pos 33
   past-is = rw (toZ-ofZ (s .fits .change)) (toZ-ofZ past-fits)
 
-  change-is : pos (natAbs (toZ w16 (ofZ w16 (toZ w16 (ofZ w16 (s .args .change)) +ℤ pos 33)))) -ℤ pos 33 ≡ s .args .change
+  change-is : pos (natAbs past) -ℤ pos 33 ≡ s .args .change
   change-is =
-      let past = s .args .change +ℤ pos 33 in
-      rw past-is (omega (zarith, s .pre, sum (s .args .change) (pos 33), abs-parts past, diff (pos (natAbs past)) (pos 33)))
+      let p = s .args .change +ℤ pos 33 in
+      rw past-is (omega (zarith, s .pre, sum (s .args .change) (pos 33), abs-parts p, diff (pos (natAbs p)) (pos 33)))
 
 add-past : tie.Need-add-past
 add-past c = rw (toZ-ofZ (c .fits .change)) (past-fits c)
@@ -47,9 +52,12 @@ cast-i c = rw (past-is c) (omega (zarith, c .pre, sum (c .args .change) (pos 33)
 array-read-letter : tie.Need-array-read-letter
 array-read-letter c = rw (past-is c) (omega (zarith, c .pre, sum (c .args .change) (pos 33), abs-parts (c .args .change +ℤ pos 33)))
 
--- the letter stands so far past A
-letter-is : (c : tie.Start) → getD (tabulated (λ k. 65 + nearestDelta (pos k -ℤ pos 33)) 55) (natAbs (toZ w16 (ofZ w16 (toZ w16 (ofZ w16 (c .args .change)) +ℤ pos 33)))) 0 ≡ 65 + nearestDelta (c .args .change)
-letter-is c = tabulated-at (λ k. 65 + nearestDelta (pos k -ℤ pos 33)) 55 _ (array-read-letter c) ∙ ap (λ (z : ℤ). 65 + nearestDelta z) (change-is c)
+-- the letter of a change stands so far past A
+abbrev letter : ℤ → ℕ
+letter change = 65 + nearestDelta change
+
+letter-is : (c : tie.Start) → getD (tabulated (λ k. letter (pos k -ℤ pos 33)) 55) (natAbs (past c)) 0 ≡ letter (c .args .change)
+letter-is c = tabulated-at (λ k. letter (pos k -ℤ pos 33)) 55 _ (array-read-letter c) ∙ ap letter (change-is c)
 
 past-a : (x n : ℕ) → x ≡ 65 + n → (65 ≤ x) × (x - 65 ≡ n)
 past-a x n e = (omega arith, omega arith)

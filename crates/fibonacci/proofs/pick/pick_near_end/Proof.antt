@@ -12,10 +12,13 @@ use mir.Val.{SFits, toZ, ofZ}
 use mir.Facts.{toZ-ofZ}
 use Rattle.laws.proofs.Signed.{zarith, widens, widened}
 use Rattle.fibonacci.specs.Step.{deltas}
-use Rattle.fibonacci.specs.Pick.{nearestDelta, Between}
+use Rattle.fibonacci.specs.Helpers.{nearestDelta, Between}
 use Rattle.fibonacci.proofs.PickLaws.{nearest-below, next-between, last-between}
 use Rattle.fibonacci.proofs.pick.pick_near_end.Statement.{statement}
 use Rattle.fibonacci.proofs.pick.pick_near_end.Tie as tie
+
+abbrev entry : tie.After-delta → tie.Start
+entry c = c .before .before
 
 nearest-delta-requires : tie.Need-nearest-delta-requires
 nearest-delta-requires c κs = search needs
@@ -39,41 +42,41 @@ cast-if1 : tie.Need-cast-if1
 cast-if1 c = widens w8 w16 tt (fits c)
 
 -- the nearest and the one after it, or before it
-next-two : (c : tie.Then1) → Between (c .before .before .before .args .prev) (c .before .before .before .args .target) (c .before .before .nearest-delta .result + 1)
+next-two : (c : tie.Then1) → Between (entry (c .before) .args .prev) (entry (c .before) .args .target) (c .before .before .nearest-delta .result + 1)
 next-two c =
-    let s = c .before .before .before in
+    let s = entry (c .before) in
     let read = toZ-ofZ (s .fits .change) in
     let past : getD deltas (nearestDelta (s .args .change)) (pos 0) <ℤ s .args .change = omega (zarith, delta-is (c .before), c .if1 .taken) in
-    rw (nearest-is (c .before .before), s .pre .0) (next-between (s .args .prev) (s .args .target) (rw (s .pre .0) at past) (rw (s .pre .0) at (s .pre .2)))
+    rw (entry, nearest-is (c .before .before), s .pre .0) (next-between (s .args .prev) (s .args .target) (rw (s .pre .0) at past) (rw (s .pre .0) at (s .pre .2)))
 
-last-two : (c : tie.Else1) → Between (c .before .before .before .args .prev) (c .before .before .before .args .target) (c .before .before .nearest-delta .result)
+last-two : (c : tie.Else1) → Between (entry (c .before) .args .prev) (entry (c .before) .args .target) (c .before .before .nearest-delta .result)
 last-two c =
-    let s = c .before .before .before in
+    let s = entry (c .before) in
     let read = toZ-ofZ (s .fits .change) in
     let short : s .args .change ≤ℤ getD deltas (nearestDelta (s .args .change)) (pos 0) = omega (zarith, delta-is (c .before), c .if1 .left) in
-    rw (nearest-is (c .before .before), s .pre .0) (last-between (s .args .prev) (s .args .target) (rw (s .pre .0) at short) (rw (s .pre .0) at (s .pre .1)))
+    rw (entry, nearest-is (c .before .before), s .pre .0) (last-between (s .args .prev) (s .args .target) (rw (s .pre .0) at short) (rw (s .pre .0) at (s .pre .1)))
 
 add-above : tie.Need-add-above
 add-above c = omega (arith, next-two c .within)
 
 pick-of-two-requires : tie.Need-pick-of-two-requires
 pick-of-two-requires c κs =
-    let s = c .before .before .before in
+    let s = entry (c .before) in
     rw (toZ-ofZ (s .fits .prev), toZ-ofZ (s .fits .target)) (next-two c)
 
 pick-of-two-requires-2 : tie.Need-pick-of-two-requires-2
 pick-of-two-requires-2 c κs =
-    let s = c .before .before .before in
+    let s = entry (c .before) in
     rw (toZ-ofZ (s .fits .prev), toZ-ofZ (s .fits .target)) (last-two c)
 
 returns : tie.Need-returns
 returns c =
-    let s = c .before .before .before .before in
+    let s = entry (c .before .before) in
     rw (toZ-ofZ (s .fits .prev), toZ-ofZ (s .fits .target)) at (c .pick-of-two .ensures)
 
 returns-2 : tie.Need-returns-2
 returns-2 c =
-    let s = c .before .before .before .before in
+    let s = entry (c .before .before) in
     rw (toZ-ofZ (s .fits .prev), toZ-ofZ (s .fits .target)) at (c .pick-of-two2 .ensures)
 
 pub pick-near-end-spec : {M : Type 1} → statement M

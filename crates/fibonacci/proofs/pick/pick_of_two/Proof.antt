@@ -13,6 +13,12 @@ use Rattle.fibonacci.proofs.PickLaws.{pick-above, pick-before, pick-hel
 use Rattle.fibonacci.proofs.pick.pick_of_two.Statement.{statement}
 use Rattle.fibonacci.proofs.pick.pick_of_two.Tie as tie
 
+abbrev stepped : tie.After-difference2 → tie.After-fib-step
+stepped c = c .before .before .before
+
+abbrev entry : tie.After-difference2 → tie.Start
+entry c = stepped c .before
+
 sub-below : tie.Need-sub-below
 sub-below c = omega (arith, c .pre .some)
 
@@ -30,37 +36,37 @@ difference-requires-2 c κs = tt
 
 -- the two steps, and how far from the target each is
 module _ (c : tie.After-difference2) where
-  high-is : toZ w8 (ofZ w8 (c .before .before .before .fib-step .result)) ≡ fibStep (c .before .before .before .before .args .prev) (c .before .before .before .before .args .above)
+  high-is : toZ w8 (ofZ w8 (stepped c .fib-step .result)) ≡ fibStep (entry c .args .prev) (entry c .args .above)
   high-is =
-      let s = c .before .before .before .before in
-      back w8 (c .before .before .before .fib-step .ok) ∙ rw (toZ-ofZ (s .fits .prev)) at (c .before .before .before .fib-step .ensures)
+      let s = entry c in
+      back w8 (stepped c .fib-step .ok) ∙ rw (toZ-ofZ (s .fits .prev)) at (stepped c .fib-step .ensures)
 
-  low-is : toZ w8 (ofZ w8 (c .before .before .fib-step2 .result)) ≡ fibStep (c .before .before .before .before .args .prev) (c .before .before .before .before .args .above - 1)
+  low-is : toZ w8 (ofZ w8 (c .before .before .fib-step2 .result)) ≡ fibStep (entry c .args .prev) (entry c .args .above - 1)
   low-is =
-      let s = c .before .before .before .before in
+      let s = entry c in
       back w8 (c .before .before .fib-step2 .ok) ∙ rw (toZ-ofZ (s .fits .prev)) at (c .before .before .fib-step2 .ensures)
 
-  over-is : toZ w16 (ofZ w16 (c .before .difference .result)) ≡ fibStep (c .before .before .before .before .args .prev) (c .before .before .before .before .args .above) -ℤ c .before .before .before .before .args .target
-  over-is = back w16 (c .before .difference .ok) ∙ rw (high-is, toZ-ofZ (c .before .before .before .before .fits .target)) at (c .before .difference .ensures)
+  over-is : toZ w16 (ofZ w16 (c .before .difference .result)) ≡ fibStep (entry c .args .prev) (entry c .args .above) -ℤ entry c .args .target
+  over-is = back w16 (c .before .difference .ok) ∙ rw (high-is, toZ-ofZ (entry c .fits .target)) at (c .before .difference .ensures)
 
-  under-is : toZ w16 (ofZ w16 (c .difference2 .result)) ≡ c .before .before .before .before .args .target -ℤ fibStep (c .before .before .before .before .args .prev) (c .before .before .before .before .args .above - 1)
-  under-is = back w16 (c .difference2 .ok) ∙ rw (low-is, toZ-ofZ (c .before .before .before .before .fits .target)) at (c .difference2 .ensures)
+  under-is : toZ w16 (ofZ w16 (c .difference2 .result)) ≡ entry c .args .target -ℤ fibStep (entry c .args .prev) (entry c .args .above - 1)
+  under-is = back w16 (c .difference2 .ok) ∙ rw (low-is, toZ-ofZ (entry c .fits .target)) at (c .difference2 .ensures)
 
 returns : tie.Need-returns
 returns c =
-    let s = c .before .before .before .before .before in
+    let s = entry (c .before) in
     pick-above (s .args .prev) (s .args .target) (s .fits .target) (s .args .above) (s .pre) (omega (zarith, over-is (c .before), under-is (c .before), c .if1 .taken))
 
 returns-2 : tie.Need-returns-2
 returns-2 c =
     let d = c .before .before in
-    let s = d .before .before .before .before in
+    let s = entry d in
     pick-before (s .args .prev) (s .args .target) (s .fits .target) (s .args .above) (s .pre) (omega (zarith, over-is d, under-is d, c .before .if1 .left)) (omega (zarith, low-is d, c .if2 .taken))
 
 returns-3 : tie.Need-returns-3
 returns-3 c =
     let d = c .before .before in
-    let s = d .before .before .before .before in
+    let s = entry d in
     pick-held (s .args .prev) (s .args .target) (s .fits .target) (s .args .above) (s .pre) (omega (zarith, over-is d, under-is d, c .before .if1 .left)) (omega (zarith, low-is d, c .if2 .left))
 
 pub pick-of-two-spec : {M : Type 1} → statement M

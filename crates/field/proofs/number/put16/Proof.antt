@@ -7,6 +7,9 @@ use Rattle.field.specs.BigEndian.{bigEndianBytes}
 use Rattle.field.proofs.number.put16.Statement.{statement}
 use Rattle.field.proofs.number.put16.Tie as tie
 
+abbrev first : tie.After-slice-known3 → tie.After-put-byte
+first c = c .before .before .before .before .before .before
+
 cast-put-byte : tie.Need-cast-put-byte
 cast-put-byte c = search needs
 
@@ -24,7 +27,7 @@ same-length c = search needs
 
 returns : tie.Need-returns
 unfolding bigEndianBytes
-returns c = rw div-one (put-then (c .before .before .before .before .before .before .put-byte .ensures) (c .before .before .put-byte2 .ensures))
+returns c = rw div-one (put-then (first c .put-byte .ensures) (c .before .before .put-byte2 .ensures))
 
 pub put16-spec : {M : Type 1} → statement M
 put16-spec =

@@ -7,6 +7,16 @@ use Rattle.field.specs.BigEndian.{bigEndianBytes}
 use Rattle.field.proofs.number.put32.Statement.{statement}
 use Rattle.field.proofs.number.put32.Tie as tie
 
+-- the stores
+abbrev first : tie.After-put-byte2 → tie.After-put-byte
+first c = c .before .before .before .before
+
+abbrev second : tie.After-put-byte3 → tie.After-put-byte2
+second c = c .before .before .before .before
+
+abbrev third : tie.After-slice-known5 → tie.After-put-byte3
+third c = c .before .before .before .before .before .before
+
 cast-put-byte : tie.Need-cast-put-byte
 cast-put-byte c = search needs
 
@@ -37,9 +47,9 @@ same-length c = search needs
 returns : tie.Need-returns
 unfolding bigEndianBytes
 returns c =
-    let e = c .before .before .before .before .before .before in
-    let f = e .before .before .before .before in
-    rw div-one (put-then (f .before .before .before .before .put-byte .ensures) (put-then (f .put-byte2 .ensures) (put-then (e .put-byte3 .ensures) (c .before .before .put-byte4 .ensures))))
+    let e = third c in
+    let f = second e in
+    rw div-one (put-then (first f .put-byte .ensures) (put-then (f .put-byte2 .ensures) (put-then (e .put-byte3 .ensures) (c .before .before .put-byte4 .ensures))))
 
 pub put32-spec : {M : Type 1} → statement M
 put32-spec =

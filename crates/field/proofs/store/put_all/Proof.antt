@@ -16,6 +16,15 @@ Inv-loop src d₀ at i₀ o₀ d i o = Underway d₀ at src d o (drop i src) × 
 abbrev μ-loop : tie.MeasureT-loop
 μ-loop src d₀ at i₀ o₀ d i o = length src - i
 
+abbrev entry : tie.At-loop Inv-loop μ-loop → tie.Start Inv-loop μ-loop
+entry l = l .before .before .before
+
+abbrev turn : tie.After-shared-slice-known2 Inv-loop μ-loop → tie.At-loop Inv-loop μ-loop
+turn c = c .before .before .before
+
+abbrev byte-read : tie.After-slice-known2 Inv-loop μ-loop → tie.After-shared-slice-known2 Inv-loop μ-loop
+byte-read c = c .before .before .before
+
 loop-holds : tie.Need-loop-holds Inv-loop μ-loop
 loop-holds c = (underway-start, refl, omega arith)
 
@@ -23,7 +32,7 @@ shared-slice-read-put-byte : tie.Need-shared-slice-read-put-byte Inv-loop μ-loo
 shared-slice-read-put-byte c = omega arith
 
 put-byte-requires : tie.Need-put-byte-requires Inv-loop μ-loop
-put-byte-requires c κs = omega (arith, c .before .before .before .loop .inv .0 .end)
+put-byte-requires c κs = omega (arith, turn c .loop .inv .0 .end)
 
 add-i : tie.Need-add-i Inv-loop μ-loop
 add-i c = omega arith
@@ -33,9 +42,9 @@ loop-less c = omega arith
 
 loop-again : tie.Need-loop-again Inv-loop μ-loop
 loop-again c =
-    let src = c .before .before .before .before .before .before .before .before .before .args .src .now in
-    let i = c .before .before .before .before .before .before .loop .i in
-    let inv = c .before .before .before .before .before .before .loop .inv in
+    let src = entry (turn (byte-read c)) .args .src .now in
+    let i = turn (byte-read c) .loop .i in
+    let inv = turn (byte-read c) .loop .inv in
     let h : i < length src = omega arith in
     let e : drop i src ≡ (getD src i 0 ∷ []) ++ drop (i + 1) src = rw (add-one, drop-cons src i 0) in
     (underway-step _ (inv .0) e (c .before .before .put-byte .ensures), c .before .before .put-byte .kept .0 ∙ inv .1, omega arith)

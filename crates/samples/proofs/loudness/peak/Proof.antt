@@ -21,6 +21,12 @@ Inv-loop samples best₀ at₀ i₀ best at i =
 abbrev μ-loop : tie.MeasureT-loop
 μ-loop samples best₀ at₀ i₀ best at i = length samples - i
 
+abbrev entry : tie.After-magnitude Inv-loop μ-loop → tie.Start Inv-loop μ-loop
+entry c = c .before .before .before
+
+abbrev turn : tie.Joined2 Inv-loop μ-loop → tie.At-loop Inv-loop μ-loop
+turn c = c .before .before .before .before
+
 returns : tie.Need-returns Inv-loop μ-loop
 returns c = c .if1 .taken
 
@@ -33,7 +39,7 @@ magnitude-requires c κs = tt
 loop-holds : tie.Need-loop-holds Inv-loop μ-loop
 unfolding loudest
 loop-holds c =
-    let xs = c .before .before .before .args .samples .now in
+    let xs = entry c .args .samples .now in
     let m : c .magnitude .result ≡ natAbs (getD xs 0 (pos 0)) = c .magnitude .ensures ∙ ap natAbs (back w8 {z = getD xs 0 (pos 0)} (c .before .magnitude-arg .given)) in
     (omega arith, omega arith, omega arith, omega (arith, m, loudest-more xs 0 (omega arith)), sym m)
 
@@ -51,9 +57,10 @@ loop-less c = omega arith
 
 loop-again : tie.Need-loop-again Inv-loop μ-loop
 loop-again c =
-    let l = c .before .before .before .before .loop in
-    let xs = c .before .before .before .before .before .before .before .before .args .samples .now in
-    let m : c .before .magnitude2 .result ≡ natAbs (getD xs (l .i) (pos 0)) = c .before .magnitude2 .ensures ∙ ap natAbs (back w8 {z = getD xs (l .i) (pos 0)} (c .before .before .magnitude-arg2 .given)) in
+    let l = turn c .loop in
+    let xs = entry (turn c .before) .args .samples .now in
+    let x-is = back w8 {z = getD xs (l .i) (pos 0)} (c .before .before .magnitude-arg2 .given) in
+    let m : c .before .magnitude2 .result ≡ natAbs (getD xs (l .i) (pos 0)) = c .before .magnitude2 .ensures ∙ ap natAbs x-is in
     let more = loudest-more xs (l .i) (omega arith) in
     ⊎-elim
     (λ w. (omega arith, omega arith, omega (arith, w .2), omega (arith, m, more, w .0, w .1), rw (w .1, w .2) (sym m)))
@@ -63,7 +70,7 @@ loop-again c =
 returns-2 : tie.Need-returns-2 Inv-loop μ-loop
 returns-2 c =
     let l = c .before .loop in
-    let xs = c .before .before .before .before .before .args .samples .now in
+    let xs = entry (c .before .before) .args .samples .now in
     let e : l .i ≡ length xs = omega arith in
     (rw (← take-length xs, ← e) (l .inv .3), omega arith, l .inv .4)
 

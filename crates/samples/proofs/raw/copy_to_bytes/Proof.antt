@@ -5,7 +5,7 @@ use mathlib.Core.List.{map, _++_}
 use Prim.Native.Nat.{_-_, _≤_}
 use native.Mathlib.Omega.{arith}
 use lib.IntN.{pos}
-use lib.ListN.{length, take, drop, length-set}
+use lib.ListN.{length, take, drop, getD, length-set}
 use mir.Syntax.{w8}
 use Rattle.laws.proofs.Prefix.{prefix-map, prefix-map-whole}
 use Rattle.laws.proofs.Signed.{back}
@@ -18,6 +18,12 @@ Inv-loop samples out₀ i₀ out i = (i ≤ length samples) × (length out ≡ l
 
 abbrev μ-loop : tie.MeasureT-loop
 μ-loop samples out₀ i₀ out i = length samples - i
+
+abbrev turn : tie.After-byte-of-sample Inv-loop μ-loop → tie.At-loop Inv-loop μ-loop
+turn c = c .before .before .before
+
+abbrev entry : tie.At-loop Inv-loop μ-loop → tie.Start Inv-loop μ-loop
+entry l = l .before .before
 
 loop-holds : tie.Need-loop-holds Inv-loop μ-loop
 loop-holds c = (omega arith, refl, refl)
@@ -39,9 +45,13 @@ loop-less c = omega arith
 
 loop-again : tie.Need-loop-again Inv-loop μ-loop
 loop-again c =
-    let l = c .before .before .before .loop in
-    let a = c .before .before .before .before .before .args in
-    (omega arith, simp length-set (l .inv .1), prefix-map byteOf (a .samples .now) (a .out .now) (l .out) (l .i) (pos 0) _ (omega arith) (omega arith) (l .inv .2) (c .byte-of-sample .ensures ∙ ap byteOf (back w8 (c .before .byte-of-sample-arg .given))))
+    let l = turn c .loop in
+    let a = entry (turn c) .args in
+    let byte = c .byte-of-sample .ensures ∙ ap byteOf (back w8 {z = getD (a .samples .now) (l .i) (pos 0)} (c .before .byte-of-sample-arg .given)) in (
+      omega arith,
+      simp length-set (l .inv .1),
+      prefix-map byteOf (a .samples .now) (a .out .now) (l .out) (l .i) (pos 0) _ (omega arith) (omega arith) (l .inv .2) byte,
+    )
 
 same-length : tie.Need-same-length Inv-loop μ-loop
 same-length c = c .before .loop .inv .1
@@ -49,7 +59,7 @@ same-length c = c .before .loop .inv .1
 returns : tie.Need-returns Inv-loop μ-loop
 returns c =
     let l = c .before .loop in
-    let a = c .before .before .before .args in
+    let a = entry (c .before) .args in
     l .inv .2 ∙ prefix-map-whole byteOf (a .samples .now) (a .out .now) (l .i) (omega arith)
 
 pub copy-to-bytes-spec : {M : Type 1} → statement M

@@ -18,6 +18,12 @@ Inv-loop body out₀ i₀ out i = (i ≤ length body) × (length out ≡ length 
 abbrev μ-loop : tie.MeasureT-loop
 μ-loop body out₀ i₀ out i = length body - i
 
+abbrev turn : tie.After-sample-of-byte Inv-loop μ-loop → tie.At-loop Inv-loop μ-loop
+turn c = c .before .before .before
+
+abbrev entry : tie.At-loop Inv-loop μ-loop → tie.Start Inv-loop μ-loop
+entry l = l .before .before
+
 loop-holds : tie.Need-loop-holds Inv-loop μ-loop
 loop-holds c = (omega arith, refl, refl)
 
@@ -38,9 +44,13 @@ loop-less c = omega arith
 
 loop-again : tie.Need-loop-again Inv-loop μ-loop
 loop-again c =
-    let l = c .before .before .before .loop in
-    let a = c .before .before .before .before .before .args in
-    (omega arith, simp length-set (l .inv .1), prefix-map sampleOf (a .body .now) (a .out .now) (l .out) (l .i) 0 _ (omega arith) (omega arith) (l .inv .2) (back w8 (c .sample-of-byte .ok) ∙ c .sample-of-byte .ensures))
+    let l = turn c .loop in
+    let a = entry (turn c) .args in
+    let sample = back w8 (c .sample-of-byte .ok) ∙ c .sample-of-byte .ensures in (
+      omega arith,
+      simp length-set (l .inv .1),
+      prefix-map sampleOf (a .body .now) (a .out .now) (l .out) (l .i) 0 _ (omega arith) (omega arith) (l .inv .2) sample,
+    )
 
 same-length : tie.Need-same-length Inv-loop μ-loop
 same-length c = c .before .loop .inv .1
@@ -48,7 +58,7 @@ same-length c = c .before .loop .inv .1
 returns : tie.Need-returns Inv-loop μ-loop
 returns c =
     let l = c .before .loop in
-    let a = c .before .before .before .args in
+    let a = entry (c .before) .args in
     l .inv .2 ∙ prefix-map-whole sampleOf (a .body .now) (a .out .now) (l .i) (omega arith)
 
 pub copy-to-samples-spec : {M : Type 1} → statement M

@@ -9,6 +9,10 @@ use Rattle.field.specs.Signed.{sampleOf}
 use Rattle.samples.proofs.raw.decode_raw.Statement.{statement}
 use Rattle.samples.proofs.raw.decode_raw.Tie as tie
 
+-- where the buffer is long enough
+abbrev fitting : tie.After-out → tie.Else1
+fitting c = c .before .before .before
+
 returns : tie.Need-returns
 returns c =
     let a = c .before .before .args in
@@ -22,7 +26,7 @@ same-length c = search needs
 
 returns-2 : tie.Need-returns-2
 returns-2 c =
-    let e = c .before .before .before in
+    let e = fitting c in
     let a = e .before .before .args in
     output-fits (map sampleOf (a .body .now)) (a .out .now) (length (a .body .now)) (sym (length-map (a .body .now) sampleOf)) _ (e .if1 .left) (c .before .copy-to-samples .ensures)
 

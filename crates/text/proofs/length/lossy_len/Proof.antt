@@ -19,20 +19,29 @@ Inv-loop s n₀ at₀ n at = (min (n + length (lossy (drop at s))) (2 ^ 62) ≡ 
 abbrev μ-loop : tie.MeasureT-loop
 μ-loop s n₀ at₀ n at = length s - at
 
+abbrev turn : tie.After-step-at Inv-loop μ-loop → tie.At-loop Inv-loop μ-loop
+turn c = c .before
+
+abbrev stepped : tie.After-known-told Inv-loop μ-loop → tie.After-step-at Inv-loop μ-loop
+stepped c = c .before .before .before
+
+abbrev ill-stepped : tie.After-known-told2 Inv-loop μ-loop → tie.After-step-at Inv-loop μ-loop
+ill-stepped c = c .before .before .before
+
 -- what the answer says where it is a scalar value, and where it is ill-formed
 scalar-here : (c : tie.After-known-told Inv-loop μ-loop) →
-    let s = now (c .before .before .before .before .before .before .args .s) in
-    let at = c .before .before .before .before .loop .at in
+    let s = now (turn (stepped c) .before .before .args .s) in
+    let at = turn (stepped c) .loop .at in
     let next = c .before .next .given .0 .0 in
     Says s at (Scalar next)
-scalar-here c = step-says _ _ (sym (c .before .before .before .step-at .ensures) ∙ c .before .next .given .1)
+scalar-here c = step-says _ _ (sym (stepped c .step-at .ensures) ∙ c .before .next .given .1)
 
 ill-formed-here : (c : tie.After-known-told2 Inv-loop μ-loop) →
-    let s = now (c .before .before .before .before .before .before .args .s) in
-    let at = c .before .before .before .before .loop .at in
+    let s = now (turn (ill-stepped c) .before .before .args .s) in
+    let at = turn (ill-stepped c) .loop .at in
     let next = c .before .next2 .given .0 .0 in
     Says s at (IllFormed next)
-ill-formed-here c = step-says _ _ (sym (c .before .before .before .step-at .ensures) ∙ c .before .next2 .given .1)
+ill-formed-here c = step-says _ _ (sym (ill-stepped c .step-at .ensures) ∙ c .before .next2 .given .1)
 
 loop-holds : tie.Need-loop-holds Inv-loop μ-loop
 loop-holds c = (omega arith, omega arith)
@@ -55,7 +64,7 @@ loop-less c = let w = scalar-here (c .before) in omega arith
 loop-again : tie.Need-loop-again Inv-loop μ-loop
 loop-again c =
     let w = scalar-here (c .before) in
-    (rw (c .add-capped .ensures) (capped-step w _ _ (omega (arith, span-length w)) ∙ c .before .before .before .before .before .loop .inv .0), omega arith)
+    (rw (c .add-capped .ensures) (capped-step w _ _ (omega (arith, span-length w)) ∙ turn (stepped (c .before)) .loop .inv .0), omega arith)
 
 enum-known-next-2 : tie.Need-enum-known-next-2 Inv-loop μ-loop
 enum-known-next-2 c = search needs
@@ -69,7 +78,7 @@ loop-less-2 c = let w = ill-formed-here (c .before) in omega arith
 loop-again-2 : tie.Need-loop-again-2 Inv-loop μ-loop
 loop-again-2 c =
     let w = ill-formed-here (c .before) in
-    (rw (c .add-capped2 .ensures) (capped-step w _ _ refl ∙ c .before .before .before .before .before .loop .inv .0), omega arith)
+    (rw (c .add-capped2 .ensures) (capped-step w _ _ refl ∙ turn (ill-stepped (c .before)) .loop .inv .0), omega arith)
 
 enum-told : tie.Need-enum-told Inv-loop μ-loop
 enum-told c = search needs

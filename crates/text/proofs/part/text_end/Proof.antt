@@ -21,20 +21,32 @@ Inv-loop s from at₀ end₀ at end = (textEnd end at (subsequencesFrom s at) �
 abbrev μ-loop : tie.MeasureT-loop
 μ-loop s from at₀ end₀ at end = length s - at
 
+abbrev turn : tie.After-step-at Inv-loop μ-loop → tie.At-loop Inv-loop μ-loop
+turn c = c .before
+
+abbrev stepped : tie.After-known-told Inv-loop μ-loop → tie.After-step-at Inv-loop μ-loop
+stepped c = c .before .before .before
+
+abbrev ill-stepped : tie.After-known-told2 Inv-loop μ-loop → tie.After-step-at Inv-loop μ-loop
+ill-stepped c = c .before .before .before
+
+abbrev scalar : tie.After-is-white-part Inv-loop μ-loop → tie.After-known-told Inv-loop μ-loop
+scalar c = c .before .before
+
 -- what the answer says where it is a scalar value, and where it is ill-formed
 scalar-here : (c : tie.After-known-told Inv-loop μ-loop) →
-    let s = now (c .before .before .before .before .before .before .args .s) in
-    let at = c .before .before .before .before .loop .at in
+    let s = now (turn (stepped c) .before .before .args .s) in
+    let at = turn (stepped c) .loop .at in
     let next = c .before .next .given .0 .0 in
     Says s at (Scalar next)
-scalar-here c = step-says _ _ (sym (c .before .before .before .step-at .ensures) ∙ c .before .next .given .1)
+scalar-here c = step-says _ _ (sym (stepped c .step-at .ensures) ∙ c .before .next .given .1)
 
 ill-formed-here : (c : tie.After-known-told2 Inv-loop μ-loop) →
-    let s = now (c .before .before .before .before .before .before .args .s) in
-    let at = c .before .before .before .before .loop .at in
+    let s = now (turn (ill-stepped c) .before .before .args .s) in
+    let at = turn (ill-stepped c) .loop .at in
     let next = c .before .next2 .given .0 .0 in
     Says s at (IllFormed next)
-ill-formed-here c = step-says _ _ (sym (c .before .before .before .step-at .ensures) ∙ c .before .next2 .given .1)
+ill-formed-here c = step-says _ _ (sym (ill-stepped c .step-at .ensures) ∙ c .before .next2 .given .1)
 
 loop-holds : tie.Need-loop-holds Inv-loop μ-loop
 loop-holds c = (refl, omega arith, omega arith, c .before .pre)
@@ -58,21 +70,21 @@ is-white-part-requires : tie.Need-is-white-part-requires Inv-loop μ-loop
 is-white-part-requires c κs = tt
 
 loop-less : tie.Need-loop-less Inv-loop μ-loop
-loop-less c = let w = scalar-here (c .before .before .before) in omega arith
+loop-less c = let w = scalar-here (scalar (c .before)) in omega arith
 
 loop-again : tie.Need-loop-again Inv-loop μ-loop
 loop-again c =
-    let w = scalar-here (c .before .before .before) in
-    let inv = c .before .before .before .before .before .before .before .loop .inv in
+    let w = scalar-here (scalar (c .before)) in
+    let inv = turn (stepped (scalar (c .before))) .loop .inv in
     (sym (end-not-white w _ (sym (c .before .is-white-part .ensures) ∙ not-true _ (c .if1 .taken))) ∙ inv .0, omega arith, omega arith, w .inside)
 
 loop-less-2 : tie.Need-loop-less-2 Inv-loop μ-loop
-loop-less-2 c = let w = scalar-here (c .before .before .before) in omega arith
+loop-less-2 c = let w = scalar-here (scalar (c .before)) in omega arith
 
 loop-again-2 : tie.Need-loop-again-2 Inv-loop μ-loop
 loop-again-2 c =
-    let w = scalar-here (c .before .before .before) in
-    let inv = c .before .before .before .before .before .before .before .loop .inv in
+    let w = scalar-here (scalar (c .before)) in
+    let inv = turn (stepped (scalar (c .before))) .loop .inv in
     (sym (end-white w _ (sym (c .before .is-white-part .ensures) ∙ not-false _ (c .if1 .left))) ∙ inv .0, omega arith, omega arith, w .inside)
 
 enum-known-next-2 : tie.Need-enum-known-next-2 Inv-loop μ-loop
@@ -84,7 +96,7 @@ loop-less-3 c = let w = ill-formed-here c in omega arith
 loop-again-3 : tie.Need-loop-again-3 Inv-loop μ-loop
 loop-again-3 c =
     let w = ill-formed-here c in
-    let inv = c .before .before .before .before .loop .inv in
+    let inv = turn (ill-stepped c) .loop .inv in
     (sym (end-not-white w _ refl) ∙ inv .0, omega arith, omega arith, w .inside)
 
 enum-told : tie.Need-enum-told Inv-loop μ-loop
@@ -92,7 +104,7 @@ enum-told c = search needs
 
 returns : tie.Need-returns Inv-loop μ-loop
 returns c =
-    let inv = c .before .before .before .loop .inv in
+    let inv = turn (c .before .before) .loop .inv in
     (sym (ap (textEnd _ _) (step-says _ _ (sym (c .before .before .step-at .ensures) ∙ c .enum-told .given .1) .0)) ∙ inv .0, inv .1, omega arith)
 
 pub text-end-spec : {M : Type 1} → statement M

@@ -22,13 +22,22 @@ Inv-loop s at₀ at = (trimStart (subsequencesFrom s at) ≡ trimStart (subseque
 abbrev μ-loop : tie.MeasureT-loop
 μ-loop s at₀ at = length s - at
 
+abbrev turn : tie.After-step-at Inv-loop μ-loop → tie.At-loop Inv-loop μ-loop
+turn c = c .before
+
+abbrev stepped : tie.After-known-told Inv-loop μ-loop → tie.After-step-at Inv-loop μ-loop
+stepped c = c .before .before .before
+
+abbrev scalar : tie.After-is-white-part Inv-loop μ-loop → tie.After-known-told Inv-loop μ-loop
+scalar c = c .before .before
+
 -- what the answer says where it is a scalar value
 scalar-here : (c : tie.After-known-told Inv-loop μ-loop) →
-    let s = now (c .before .before .before .before .before .before .args .s) in
-    let at = c .before .before .before .before .loop .at in
+    let s = now (turn (stepped c) .before .before .args .s) in
+    let at = turn (stepped c) .loop .at in
     let next = c .before .next .given .0 .0 in
     Says s at (Scalar next)
-scalar-here c = step-says _ _ (sym (c .before .before .before .step-at .ensures) ∙ c .before .next .given .1)
+scalar-here c = step-says _ _ (sym (stepped c .step-at .ensures) ∙ c .before .next .given .1)
 
 loop-holds : tie.Need-loop-holds Inv-loop μ-loop
 unfolding subsequencesFrom
@@ -54,17 +63,17 @@ is-white-part-requires c κs = tt
 
 returns : tie.Need-returns Inv-loop μ-loop
 returns c =
-    let w = scalar-here (c .before .before .before) in
-    let inv = c .before .before .before .before .before .before .before .loop .inv in
+    let w = scalar-here (scalar (c .before)) in
+    let inv = turn (stepped (scalar (c .before))) .loop .inv in
     (sym (start-here w (sym (c .before .is-white-part .ensures) ∙ not-true _ (c .if1 .taken))) ∙ inv .0, inv .1)
 
 loop-less : tie.Need-loop-less Inv-loop μ-loop
-loop-less c = let w = scalar-here (c .before .before .before) in omega arith
+loop-less c = let w = scalar-here (scalar (c .before)) in omega arith
 
 loop-again : tie.Need-loop-again Inv-loop μ-loop
 loop-again c =
-    let w = scalar-here (c .before .before .before) in
-    let inv = c .before .before .before .before .before .before .before .loop .inv in
+    let w = scalar-here (scalar (c .before)) in
+    let inv = turn (stepped (scalar (c .before))) .loop .inv in
     (sym (start-later w (sym (c .before .is-white-part .ensures) ∙ not-false _ (c .if1 .left))) ∙ inv .0, w .inside)
 
 enum-told : tie.Need-enum-told Inv-loop μ-loop
@@ -72,7 +81,7 @@ enum-told c = search needs
 
 returns-2 : tie.Need-returns-2 Inv-loop μ-loop
 returns-2 c =
-    let inv = c .before .before .before .loop .inv in
+    let inv = turn (c .before .before) .loop .inv in
     (sym (start-here (step-says _ _ (sym (c .before .before .step-at .ensures) ∙ c .enum-told .given .1)) refl) ∙ inv .0, inv .1)
 
 enum-told-2 : tie.Need-enum-told-2 Inv-loop μ-loop
@@ -80,7 +89,7 @@ enum-told-2 c = search needs
 
 returns-3 : tie.Need-returns-3 Inv-loop μ-loop
 returns-3 c =
-    let inv = c .before .before .before .loop .inv in
+    let inv = turn (c .before .before) .loop .inv in
     (sym (start-end (step-says _ _ (sym (c .before .before .step-at .ensures) ∙ c .enum-told2 .given .1) .0)) ∙ inv .0, inv .1)
 
 pub text-start-spec : {M : Type 1} → statement M

@@ -9,6 +9,9 @@ use Rattle.text.proofs.PlaceLaws.{part-is, part-start}
 use Rattle.text.proofs.part.trimmed.Statement.{statement}
 use Rattle.text.proofs.part.trimmed.Tie as tie
 
+abbrev entry : tie.After-result → tie.Start
+entry c = c .before .before .before .before
+
 text-start-requires : tie.Need-text-start-requires
 text-start-requires c κs = search needs
 
@@ -26,7 +29,7 @@ part-result-end c = search needs
 
 returns : tie.Need-returns
 returns c =
-    let s = c .before .before .before .before .args .s in
+    let s = entry c .args .s in
     let from = c .before .before .text-start .result in
     let start = c .before .before .text-start .ensures in
     let moved = add-comm from (s .ptr .1) ∙ ap (λ (k : ℕ). s .ptr .1 + k) (part-start (now s) from (start .0) (start .1)) in

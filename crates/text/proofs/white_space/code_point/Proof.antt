@@ -1,12 +1,22 @@
 -- The laws of `codePoint` by the number of bytes; sums, products and casts by search.
 -- Assumes nothing.
 use borrow.Author.Needs.{needs}
-use denote.Ref.{now}
 use native.Mathlib.Omega.{arith}
+use denote.Ref.{now}
 use Rattle.text.proofs.WhiteSpaceLaws.{code-point-of, code-point-none}
 use Rattle.text.proofs.white_space.code_point.Statement.{statement}
 use Rattle.text.proofs.white_space.code_point.Tie as tie
 use Rattle.text.specs.WhiteSpace.{codePoint}
+
+-- the arms for two bytes, for three and for four
+abbrev two : tie.After-shared-slice-known3 → tie.At-match-keys2
+two c = c .before .before
+
+abbrev three : tie.After-shared-slice-known6 → tie.At-match-keys3
+three c = c .before .before .before
+
+abbrev four : tie.After-shared-slice-known10 → tie.At-match-keys4
+four c = c .before .before .before .before
 
 shared-slice-read-result : tie.Need-shared-slice-read-result
 shared-slice-read-result c = search needs
@@ -110,15 +120,15 @@ returns c = code-point-of 1 (now (c .before .before .args .s)) (c .before .match
 
 returns-2 : tie.Need-returns-2
 unfolding codePoint
-returns-2 c = code-point-of 2 (now (c .before .before .before .args .s)) (c .before .before .match .keys2)
+returns-2 c = code-point-of 2 (now (two c .before .args .s)) (two c .match .keys2)
 
 returns-3 : tie.Need-returns-3
 unfolding codePoint
-returns-3 c = code-point-of 3 (now (c .before .before .before .before .args .s)) (c .before .before .before .match .keys3)
+returns-3 c = code-point-of 3 (now (three c .before .args .s)) (three c .match .keys3)
 
 returns-4 : tie.Need-returns-4
 unfolding codePoint
-returns-4 c = code-point-of 4 (now (c .before .before .before .before .before .args .s)) (c .before .before .before .before .match .keys4)
+returns-4 c = code-point-of 4 (now (four c .before .args .s)) (four c .match .keys4)
 
 returns-5 : tie.Need-returns-5
 returns-5 c = code-point-none _ (c .match .rest .0 .0 .0 .1) (c .match .rest .0 .0 .1) (c .match .rest .0 .1) (c .match .rest .1)

@@ -9,6 +9,13 @@ use Rattle.text.proofs.white_space.is_white_space.Statement.{statement}
 use Rattle.text.proofs.white_space.is_white_space.Tie as tie
 use Rattle.text.specs.WhiteSpace.{isWhiteSpace}
 
+-- no single code point, below the ranges and above them
+abbrev low : tie.Then3 → tie.At-match-rest
+low c = c .before .before .before
+
+abbrev high : tie.Else6 → tie.At-match-rest
+high c = c .before .before .before .before .before .before
+
 returns : tie.Need-returns
 unfolding isWhiteSpace
 returns c = rw (c .match .keys1)
@@ -51,7 +58,7 @@ returns-11 c = not-white _ (search needs)
 
 returns-12 : tie.Need-returns-12
 returns-12 c =
-    let r = c .before .before .before .match .rest in
+    let r = low c .match .rest in
     not-white-low _ (omega arith) (omega arith) (r .0 .0 .0 .0 .0 .0 .1) (r .0 .0 .0 .0 .0 .1) (r .0 .0 .0 .0 .1) (r .0 .0 .0 .1)
 
 returns-13 : tie.Need-returns-13
@@ -59,7 +66,7 @@ returns-13 c = not-white _ (search needs)
 
 returns-14 : tie.Need-returns-14
 returns-14 c =
-    let r = c .before .before .before .before .before .before .match .rest in
+    let r = high c .match .rest in
     not-white-high _ (omega arith) (r .0 .0 .1) (r .0 .1) (r .1)
 
 pub is-white-space-spec : {M : Type 1} → statement M

@@ -23,20 +23,38 @@ Inv-loop s d₀ at i₀ o₀ d i o = Underway d₀ at (textRecords (lossy s)) d 
 abbrev μ-loop : tie.MeasureT-loop
 μ-loop s d₀ at i₀ o₀ d i o = length s - i
 
+abbrev entry : tie.At-loop Inv-loop μ-loop → tie.Start Inv-loop μ-loop
+entry l = l .before .before .before
+
+abbrev turn : tie.After-step-at Inv-loop μ-loop → tie.At-loop Inv-loop μ-loop
+turn c = c .before
+
+abbrev stepped : tie.After-known-told Inv-loop μ-loop → tie.After-step-at Inv-loop μ-loop
+stepped c = c .before .before .before
+
+abbrev ill-stepped : tie.After-known-told2 Inv-loop μ-loop → tie.After-step-at Inv-loop μ-loop
+ill-stepped c = c .before .before .before
+
+abbrev scalar : tie.After-slice-known2 Inv-loop μ-loop → tie.After-known-told Inv-loop μ-loop
+scalar c = c .before .before .before .before .before
+
+abbrev ill-formed : tie.After-slice-known3 Inv-loop μ-loop → tie.After-known-told2 Inv-loop μ-loop
+ill-formed c = c .before .before .before .before
+
 -- what the answer says where it is a scalar value, and where it is ill-formed
 scalar-here : (c : tie.After-known-told Inv-loop μ-loop) →
-    let s = now (c .before .before .before .before .before .before .before .args .s) in
-    let at = c .before .before .before .before .loop .i in
+    let s = now (entry (turn (stepped c)) .args .s) in
+    let at = turn (stepped c) .loop .i in
     let next = c .before .next .given .0 .0 in
     Says s at (Scalar next)
-scalar-here c = step-says _ _ (sym (c .before .before .before .step-at .ensures) ∙ c .before .next .given .1)
+scalar-here c = step-says _ _ (sym (stepped c .step-at .ensures) ∙ c .before .next .given .1)
 
 ill-formed-here : (c : tie.After-known-told2 Inv-loop μ-loop) →
-    let s = now (c .before .before .before .before .before .before .before .args .s) in
-    let at = c .before .before .before .before .loop .i in
+    let s = now (entry (turn (ill-stepped c)) .args .s) in
+    let at = turn (ill-stepped c) .loop .i in
     let next = c .before .next2 .given .0 .0 in
     Says s at (IllFormed next)
-ill-formed-here c = step-says _ _ (sym (c .before .before .before .step-at .ensures) ∙ c .before .next2 .given .1)
+ill-formed-here c = step-says _ _ (sym (ill-stepped c .step-at .ensures) ∙ c .before .next2 .given .1)
 
 loop-holds : tie.Need-loop-holds Inv-loop μ-loop
 loop-holds c = (underway-start, refl)
@@ -58,16 +76,16 @@ part-put-tagged-end c = scalar-here c .inside
 
 put-tagged-requires : tie.Need-put-tagged-requires Inv-loop μ-loop
 put-tagged-requires c κs =
-    let room = text-room (scalar-here (c .before .before)) (c .before .before .before .before .before .before .loop .inv .0) in
+    let room = text-room (scalar-here (c .before .before)) (turn (stepped (c .before .before)) .loop .inv .0) in
     (omega arith, rw records-tagged (omega arith))
 
 loop-less : tie.Need-loop-less Inv-loop μ-loop
-loop-less c = let w = scalar-here (c .before .before .before .before .before) in omega arith
+loop-less c = let w = scalar-here (scalar c) in omega arith
 
 loop-again : tie.Need-loop-again Inv-loop μ-loop
 loop-again c =
-    let w = scalar-here (c .before .before .before .before .before) in
-    let inv = c .before .before .before .before .before .before .before .before .before .loop .inv in
+    let w = scalar-here (scalar c) in
+    let inv = turn (stepped (scalar c)) .loop .inv in
     (text-more w (inv .0) (rw records-tagged at (c .before .before .put-tagged .ensures)), c .before .before .put-tagged .kept .1 .1 .1 .0 ∙ inv .1)
 
 enum-known-next-2 : tie.Need-enum-known-next-2 Inv-loop μ-loop
@@ -75,26 +93,26 @@ enum-known-next-2 c = search needs
 
 put-replacement-requires : tie.Need-put-replacement-requires Inv-loop μ-loop
 put-replacement-requires c κs =
-    let room = text-room (ill-formed-here (c .before)) (c .before .before .before .before .before .loop .inv .0) in
+    let room = text-room (ill-formed-here (c .before)) (turn (ill-stepped (c .before)) .loop .inv .0) in
     omega (arith, records-length (0xEF ∷ 0xBF ∷ 0xBD ∷ []))
 
 loop-less-2 : tie.Need-loop-less-2 Inv-loop μ-loop
-loop-less-2 c = let w = ill-formed-here (c .before .before .before .before) in omega arith
+loop-less-2 c = let w = ill-formed-here (ill-formed c) in omega arith
 
 loop-again-2 : tie.Need-loop-again-2 Inv-loop μ-loop
 loop-again-2 c =
-    let inv = c .before .before .before .before .before .before .before .before .loop .inv in
-    (text-more (ill-formed-here (c .before .before .before .before)) (inv .0) (c .before .before .put-replacement .ensures), c .before .before .put-replacement .kept .0 ∙ inv .1)
+    let inv = turn (ill-stepped (ill-formed c)) .loop .inv in
+    (text-more (ill-formed-here (ill-formed c)) (inv .0) (c .before .before .put-replacement .ensures), c .before .before .put-replacement .kept .0 ∙ inv .1)
 
 enum-told : tie.Need-enum-told Inv-loop μ-loop
 enum-told c = search needs
 
 same-length : tie.Need-same-length Inv-loop μ-loop
-same-length c = c .before .before .before .loop .inv .1
+same-length c = turn (c .before .before) .loop .inv .1
 
 returns : tie.Need-returns Inv-loop μ-loop
 unfolding textRecords
-returns c = underway-done (c .before .before .before .loop .inv .0) (ap textRecords (lossy-end _ _ (step-says _ _ (sym (c .before .before .step-at .ensures) ∙ c .enum-told .given .1) .0)))
+returns c = underway-done (turn (c .before .before) .loop .inv .0) (ap textRecords (lossy-end _ _ (step-says _ _ (sym (c .before .before .step-at .ensures) ∙ c .enum-told .given .1) .0)))
 
 pub put-lossy-spec : {M : Type 1} → statement M
 put-lossy-spec =

@@ -16,6 +16,12 @@ Inv-loop s at more low high i₀ left₀ lo₀ hi₀ i left lo hi = (i + matchin
 abbrev μ-loop : tie.MeasureT-loop
 μ-loop s at more low high i₀ left₀ lo₀ hi₀ i left lo hi = left
 
+abbrev inside : tie.Else1 Inv-loop μ-loop → tie.In-loop Inv-loop μ-loop
+inside c = c .before
+
+abbrev within : tie.After-shared-slice-known2 Inv-loop μ-loop → tie.Else1 Inv-loop μ-loop
+within c = c .before .before .before
+
 loop-holds : tie.Need-loop-holds Inv-loop μ-loop
 loop-holds c = (refl, c .pre)
 
@@ -27,7 +33,7 @@ shared-slice-read-if2 c = omega arith
 
 returns-2 : tie.Need-returns-2 Inv-loop μ-loop
 returns-2 c =
-    let t = c .before .before .before in
+    let t = inside (c .before .before) in
     sym (stop-low _ _ _ _ _ (t .loop-test .taken) (c .before .before .if1 .left) (c .if2 .taken)) ∙ t .before .loop .inv .0
 
 shared-slice-read-if3 : tie.Need-shared-slice-read-if3 Inv-loop μ-loop
@@ -35,8 +41,8 @@ shared-slice-read-if3 c = omega arith
 
 returns-3 : tie.Need-returns-3 Inv-loop μ-loop
 returns-3 c =
-    let t = c .before .before .before .before .before in
-    sym (stop-high _ _ _ _ _ (t .loop-test .taken) (c .before .before .before .before .if1 .left) (c .if3 .taken)) ∙ t .before .loop .inv .0
+    let t = inside (within (c .before)) in
+    sym (stop-high _ _ _ _ _ (t .loop-test .taken) (within (c .before) .if1 .left) (c .if3 .taken)) ∙ t .before .loop .inv .0
 
 add-i : tie.Need-add-i Inv-loop μ-loop
 add-i c = omega arith
@@ -49,8 +55,8 @@ loop-less c = omega arith
 
 loop-again : tie.Need-loop-again Inv-loop μ-loop
 loop-again c =
-    let t = c .before .before .before .before .before in
-    let e = one-more _ _ _ _ _ (t .loop-test .taken) (c .before .before .before .before .if1 .left) (c .before .before .if2 .left) (c .if3 .left) in
+    let t = inside (within (c .before)) in
+    let e = one-more _ _ _ _ _ (t .loop-test .taken) (within (c .before) .if1 .left) (c .before .before .if2 .left) (c .if3 .left) in
     (sym e ∙ t .before .loop .inv .0, omega arith)
 
 returns-4 : tie.Need-returns-4 Inv-loop μ-loop

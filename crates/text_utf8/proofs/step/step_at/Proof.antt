@@ -7,6 +7,12 @@ use Rattle.text_utf8.proofs.step.step_at.Statement.{statement}
 use Rattle.text_utf8.proofs.step.step_at.Tie as tie
 use Rattle.text_utf8.specs.Lead.{led}
 
+abbrev lead : tie.After-matching-end → tie.After-lead-of
+lead c = c .before .before .before .before
+
+abbrev told : tie.After-matching-end → tie.After-more
+told c = c .before .before
+
 returns : tie.Need-returns
 returns c = sym (step-end _ _ (c .if1 .taken))
 
@@ -30,8 +36,8 @@ sub-if2 c = search needs
 
 returns-2 : tie.Need-returns-2
 returns-2 c =
-    let d = c .before .before .before .before .before in
-    let f = sym (d .lead-of .ensures) ∙ ap led (c .before .before .before .more .given .1) in
+    let d = lead (c .before) in
+    let f = sym (d .lead-of .ensures) ∙ ap led (told (c .before) .more .given .1) in
     sym (step-scalar _ _ (d .before .before .if1 .left) _ _ _ _ f (c .before .matching-end .ensures) (c .if2 .taken))
 
 enum-told : tie.Need-enum-told
@@ -39,8 +45,8 @@ enum-told c = search needs
 
 returns-3 : tie.Need-returns-3
 returns-3 c =
-    let d = c .before .before .before .before .before in
-    let f = sym (d .lead-of .ensures) ∙ ap led (c .before .before .before .more .given .1) in
+    let d = lead (c .before) in
+    let f = sym (d .lead-of .ensures) ∙ ap led (told (c .before) .more .given .1) in
     sym (step-ill-formed _ _ (d .before .before .if1 .left) _ _ _ _ f (c .before .matching-end .ensures) (c .if2 .left))
 
 returns-4 : tie.Need-returns-4

@@ -19,10 +19,16 @@ Inv-loop s at₀ at = allWellFormed (subsequencesFrom s at) ≡ wellFormed s
 abbrev μ-loop : tie.MeasureT-loop
 μ-loop s at₀ at = length s - at
 
+abbrev turn : tie.After-step-at Inv-loop μ-loop → tie.At-loop Inv-loop μ-loop
+turn c = c .before
+
+abbrev stepped : tie.After-known-told Inv-loop μ-loop → tie.After-step-at Inv-loop μ-loop
+stepped c = c .before .before .before
+
 -- what the answer says where it is a scalar value
 here : (c : tie.After-known-told Inv-loop μ-loop) →
-    Says (now (c .before .before .before .before .before .before .args .s)) (c .before .before .before .before .loop .at) (Scalar (c .before .next .given .0 .0))
-here c = step-says _ _ (sym (c .before .before .before .step-at .ensures) ∙ c .before .next .given .1)
+    Says (now (turn (stepped c) .before .before .args .s)) (turn (stepped c) .loop .at) (Scalar (c .before .next .given .0 .0))
+here c = step-says _ _ (sym (stepped c .step-at .ensures) ∙ c .before .next .given .1)
 
 loop-holds : tie.Need-loop-holds Inv-loop μ-loop
 unfolding wellFormed subsequencesFrom
@@ -38,19 +44,19 @@ loop-less : tie.Need-loop-less Inv-loop μ-loop
 loop-less c = let w = here c in omega arith
 
 loop-again : tie.Need-loop-again Inv-loop μ-loop
-loop-again c = sym (ap allWellFormed (here c .is)) ∙ c .before .before .before .before .loop .inv
+loop-again c = sym (ap allWellFormed (here c .is)) ∙ turn (stepped c) .loop .inv
 
 enum-told : tie.Need-enum-told Inv-loop μ-loop
 enum-told c = search needs
 
 returns : tie.Need-returns Inv-loop μ-loop
-returns c = sym (ap allWellFormed (step-says _ _ (sym (c .before .before .step-at .ensures) ∙ c .enum-told .given .1) .is)) ∙ c .before .before .before .loop .inv
+returns c = sym (ap allWellFormed (step-says _ _ (sym (c .before .before .step-at .ensures) ∙ c .enum-told .given .1) .is)) ∙ turn (c .before .before) .loop .inv
 
 enum-told-2 : tie.Need-enum-told-2 Inv-loop μ-loop
 enum-told-2 c = search needs
 
 returns-2 : tie.Need-returns-2 Inv-loop μ-loop
-returns-2 c = sym (ap allWellFormed (step-says _ _ (sym (c .before .before .step-at .ensures) ∙ c .enum-told2 .given .1) .0)) ∙ c .before .before .before .loop .inv
+returns-2 c = sym (ap allWellFormed (step-says _ _ (sym (c .before .before .step-at .ensures) ∙ c .enum-told2 .given .1) .0)) ∙ turn (c .before .before) .loop .inv
 
 pub well-formed-spec : {M : Type 1} → statement M
 well-formed-spec =
