@@ -15,9 +15,13 @@ use Rattle.note_calls.specs.Play.{HostCall, fillBuffer, keyUpNow, PutOut
 use Rattle.note_calls.specs.declared.Made.{Made}
 use Rattle.note_calls.specs.declared.Made.the-variants.{Calls, Refused}
 
+-- the number that stands for a key-up
+abbrev pub keyUpNumber : ℕ
+keyUpNumber = 18446744073709551615
+
 -- a number is a key-up
 abbrev pub isKeyUp : ℕ → Bool
-isKeyUp call = eqb call 18446744073709551615
+isKeyUp call = eqb call keyUpNumber
 
 -- a number as a call: a key-up, or a fill of so many places. What a buffer held matters to no answer and no accepted block, so let it be zeros
 abbrev pub hostCall : ℕ → HostCall
@@ -27,15 +31,23 @@ hostCall call = cond (isKeyUp call) keyUpNow (fillBuffer (replicate call (pos 0)
 abbrev pub hostCalls : List ℕ → List HostCall
 hostCalls calls = map hostCall calls
 
+-- how many places a call fills: a key-up none
+abbrev pub placesOf : ℕ → ℕ
+placesOf call = cond (isKeyUp call) 0 call
+
+-- how many answers it gives: a key-up none
+abbrev pub answersOf : ℕ → ℕ
+answersOf call = cond (isKeyUp call) 0 1
+
 -- how many places the fills have together
 unfoldable pub placesIn : List ℕ → ℕ
 placesIn [] = 0
-placesIn (call ∷ calls) = cond (isKeyUp call) 0 call + placesIn calls
+placesIn (call ∷ calls) = placesOf call + placesIn calls
 
 -- how many fills there are
 unfoldable pub fillsIn : List ℕ → ℕ
 fillsIn [] = 0
-fillsIn (call ∷ calls) = cond (isKeyUp call) 0 1 + fillsIn calls
+fillsIn (call ∷ calls) = answersOf call + fillsIn calls
 
 -- an answer as a number: how many frames aren't over, or 2^63 and the refusal's number
 abbrev pub answerNumber : Answer → ℕ

@@ -9,12 +9,15 @@ use Rattle.note.specs.declared.Answer.the-variants.{Sounding, Refused}
 use Rattle.svx.specs.declared.notes.SvxNote.{SvxNote}
 
 -- released at a frame, or held: then the frame is ignored
-abbrev pub keyOf : Bool → ℕ → Key
-keyOf released frame = cond released (Released frame) Held
+abbrev pub keyHandedIn : Bool → ℕ → Key
+keyHandedIn released frame = cond released (Released frame) Held
 
 -- the note that was handed in
 abbrev pub noteOf : SvxNote → Note
-noteOf n = record { octave = n .octave; step = n .step; rate = n .rate; frames = n .frames; key = keyOf (n .released) (n .«key_up») }
+noteOf n = record {
+  playing = record { octave = n .octave; step = n .step; rate = n .rate; key = keyHandedIn (n .released) (n .«key_up») };
+  frames = n .frames;
+}
 
 -- that it is released
 abbrev pub releasedOf : Key → Bool
@@ -22,13 +25,20 @@ releasedOf Held = false
 releasedOf (Released u) = true
 
 -- and where; 0 while it is held
-abbrev pub frameOf : Key → ℕ
-frameOf Held = 0
-frameOf (Released u) = u
+abbrev pub keyUpFrame : Key → ℕ
+keyUpFrame Held = 0
+keyUpFrame (Released u) = u
 
 -- the note that is handed back
 abbrev pub shapeOf : Note → SvxNote
-shapeOf n = record { octave = n .octave; step = n .step; rate = n .rate; frames = n .frames; released = releasedOf (n .key); «key_up» = frameOf (n .key) }
+shapeOf n = record {
+  octave = n .playing .octave;
+  step = n .playing .step;
+  rate = n .playing .rate;
+  frames = n .frames;
+  released = releasedOf (n .playing .key);
+  «key_up» = keyUpFrame (n .playing .key);
+}
 
 -- the refusal of a fill, or 0
 abbrev pub refusalOf : Answer → ℕ

@@ -1,8 +1,8 @@
 // BODY and its channels.
 use crate::hand::hand_length;
-use body_decode::decode_body;
-use fibonacci::fibonacci_decode_channel;
-use fibonacci::fibonacci_encode_channel;
+use voice::decode_body;
+use voice::fibonacci_decode_channel;
+use voice::fibonacci_encode_channel;
 ghost use mathlib.Core.Path.{_≡_};
 ghost use lib.ListN.{length};
 ghost use Rattle.refusal.specs.Outcome.{gives, answer, bufferAfter};

@@ -1,15 +1,14 @@
 // Files read and written.
 use crate::hand::hand_length;
 use crate::hand::hand_lengths;
-use voice_read::parse_voice;
-use voice_read::voice_lengths;
-use voice_write::encode_voice;
-use voice_write::file_length;
+use voice::encode_voice;
+use voice::file_length;
+use voice::parse_voice;
+use voice::voice_lengths;
 ghost use mathlib.Core.Path.{_≡_};
 ghost use lib.ListN.{length};
 ghost use Rattle.refusal.specs.Outcome.{answer, bufferAfter};
-ghost use Rattle.sheet.specs.Flat.{flat};
-ghost use Rattle.voice_read.specs.Parsed.{neededBy, answerOf, after};
+ghost use Rattle.voice_read.specs.Parsed.{neededBy, afterReading};
 ghost use Rattle.voice_read.specs.ReadVoice.{readVoice};
 ghost use Rattle.voice_write.specs.Answers.{lengthOf};
 ghost use Rattle.voice_write.specs.WriteVoice.{writeSheet};
@@ -32,11 +31,11 @@ pub extern "C" fn svx_parse_voice(
     right: &mut [i8],
     lengths: &mut [u64; 3],
 ) -> u32
-    ensures result { λ r. ⌜ r ≡ parsedNumber (answerOf (readVoice (now (file .entry))) (length (now (sheet .entry))) (length (now (left .entry))) (length (now (right .entry)))) ⌝ }
-    ensures lengths { λ _. ⌜ now (lengths .exit) ≡ parsedLengths (answerOf (readVoice (now (file .entry))) (length (now (sheet .entry))) (length (now (left .entry))) (length (now (right .entry)))) (now (lengths .entry)) ⌝ }
-    ensures sheet { λ _. ⌜ now (sheet .exit) ≡ after (λ x. flat (x .voice)) (readVoice (now (file .entry))) (length (now (sheet .entry))) (length (now (left .entry))) (length (now (right .entry))) (now (sheet .entry)) ⌝ }
-    ensures left { λ _. ⌜ now (left .exit) ≡ after (λ x. x .sides .left) (readVoice (now (file .entry))) (length (now (sheet .entry))) (length (now (left .entry))) (length (now (right .entry))) (now (left .entry)) ⌝ }
-    ensures right { λ _. ⌜ now (right .exit) ≡ after (λ x. x .sides .right) (readVoice (now (file .entry))) (length (now (sheet .entry))) (length (now (left .entry))) (length (now (right .entry))) (now (right .entry)) ⌝ }
+    ensures result { λ r. ⌜ r ≡ parsedNumber (afterReading (now (file .entry)) (record { sheet = now (sheet .entry); left = now (left .entry); right = now (right .entry) }) .parsed) ⌝ }
+    ensures lengths { λ _. ⌜ now (lengths .exit) ≡ parsedLengths (afterReading (now (file .entry)) (record { sheet = now (sheet .entry); left = now (left .entry); right = now (right .entry) }) .parsed) (now (lengths .entry)) ⌝ }
+    ensures sheet { λ _. ⌜ now (sheet .exit) ≡ afterReading (now (file .entry)) (record { sheet = now (sheet .entry); left = now (left .entry); right = now (right .entry) }) .buffers .sheet ⌝ }
+    ensures left { λ _. ⌜ now (left .exit) ≡ afterReading (now (file .entry)) (record { sheet = now (sheet .entry); left = now (left .entry); right = now (right .entry) }) .buffers .left ⌝ }
+    ensures right { λ _. ⌜ now (right .exit) ≡ afterReading (now (file .entry)) (record { sheet = now (sheet .entry); left = now (left .entry); right = now (right .entry) }) .buffers .right ⌝ }
 {
     let parsed = parse_voice(file, sheet, left, right);
     hand_lengths(parsed, lengths)

@@ -1,6 +1,6 @@
 // Lengths handed to the places that a caller lent for them.
-use refusal::Output;
-use voice_read::Parsed;
+use voice::Output;
+use voice::Parsed;
 ghost use mathlib.Core.Path.{_≡_};
 ghost use Rattle.svx.specs.Answers.{parsedNumber, parsedLengths, outputNumber, outputLength};
 

@@ -1,9 +1,9 @@
 // Frequency, pan, volume, peak and level.
-use header::Frequency;
-use header::VoiceHeader;
-use samples::Loudest;
-use samples::peak;
-use small_chunks::Pan;
+use voice::Frequency;
+use voice::Loudest;
+use voice::Pan;
+use voice::VoiceHeader;
+use voice::peak;
 ghost use mathlib.Core.Path.{_≡_};
 ghost use Rattle.envelope.specs.Envelope.{levelAt};
 ghost use Rattle.header.specs.Frequency.{cycleFrequency};
@@ -76,7 +76,7 @@ pub extern "C" fn svx_pan_weights(position: i32) -> SvxPan
 pub extern "C" fn svx_volume_f32(volume: u32) -> f32
     ensures { λ r. ⌜ r ≡ volumeFloat volume ⌝ }
 {
-    header_volume::volume_f32(volume)
+    voice::volume_f32(volume)
 }
 
 #[no_mangle]
@@ -101,5 +101,5 @@ pub extern "C" fn svx_peak(samples: &[i8]) -> SvxPeak
 pub extern "C" fn svx_level_at_ms(points: &[u8], start: i32, t_ms: u64) -> i32
     ensures { λ r. ⌜ r ≡ levelAt (envelopePoints (now (points .entry))) start «t_ms» ⌝ }
 {
-    envelope::level_at_ms(points, start, t_ms)
+    voice::level_at_ms(points, start, t_ms)
 }

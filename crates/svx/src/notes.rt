@@ -1,12 +1,12 @@
 // Notes.
-use note::Answer;
-use note::Note;
-use note_rules::Key;
+use voice::Answer;
+use voice::Key;
+use voice::Note;
+use voice::Playing;
 ghost use mathlib.Core.Path.{_≡_};
-ghost use lib.ListN.{length};
-ghost use Rattle.note.specs.Fill.{fillSheet, answerOf, noteAfter, blockAfter};
-ghost use Rattle.note.specs.Note.{startOf, keyUpOf, requestOf};
-ghost use Rattle.svx.specs.Notes.{keyOf, noteOf, shapeOf, releasedOf, frameOf, refusalOf, soundingOf};
+ghost use Rattle.note.specs.Fill.{afterFill};
+ghost use Rattle.note.specs.Note.{startOf, keyUpOf};
+ghost use Rattle.svx.specs.Notes.{keyHandedIn, noteOf, shapeOf, releasedOf, keyUpFrame, refusalOf, soundingOf};
 
 // key_up is 0 while the note is held: of a note that is handed in held it is ignored, and it comes back as 0.
 #[repr(C)]
@@ -28,7 +28,7 @@ pub struct SvxFilled {
 }
 
 fn key_of(released: bool, key_up: u32) -> Key
-    ensures { λ r. ⌜ r ≡ keyOf released «key_up» ⌝ }
+    ensures { λ r. ⌜ r ≡ keyHandedIn released «key_up» ⌝ }
 {
     if released {
         return Key::Released(key_up);
@@ -40,12 +40,15 @@ fn note_of(n: SvxNote) -> Note
     ensures { λ r. ⌜ r ≡ noteOf n ⌝ }
 {
     let key = key_of(n.released, n.key_up);
-    Note {
+    let playing = Playing {
         octave: n.octave,
         step: n.step,
         rate: n.rate,
-        frames: n.frames,
         key,
+    };
+    Note {
+        playing,
+        frames: n.frames,
     }
 }
 
@@ -59,7 +62,7 @@ fn is_released(key: Key) -> bool
 }
 
 fn key_up_frame(key: Key) -> u32
-    ensures { λ r. ⌜ r ≡ frameOf key ⌝ }
+    ensures { λ r. ⌜ r ≡ keyUpFrame key ⌝ }
 {
     match key {
         Key::Held => 0,
@@ -70,11 +73,12 @@ fn key_up_frame(key: Key) -> u32
 fn shape_of(n: Note) -> SvxNote
     ensures { λ r. ⌜ r ≡ shapeOf n ⌝ }
 {
-    let key = n.key;
+    let p = n.playing;
+    let key = p.key;
     SvxNote {
-        octave: n.octave,
-        step: n.step,
-        rate: n.rate,
+        octave: p.octave,
+        step: p.step,
+        rate: p.rate,
         frames: n.frames,
         released: is_released(key),
         key_up: key_up_frame(key),
@@ -122,10 +126,10 @@ pub extern "C" fn svx_note_fill(
     right: &[i8],
     out: &mut [i16],
 ) -> SvxFilled
-    ensures refusal { λ r. ⌜ r .refusal ≡ refusalOf (answerOf (fillSheet (now (sheet .entry)) (record { left = now (left .entry); right = now (right .entry) }) (requestOf (noteOf note) (length (now (out .entry)))))) ⌝ }
-    ensures sounding { λ r. ⌜ r .sounding ≡ soundingOf (answerOf (fillSheet (now (sheet .entry)) (record { left = now (left .entry); right = now (right .entry) }) (requestOf (noteOf note) (length (now (out .entry)))))) ⌝ }
-    ensures note { λ r. ⌜ r .note ≡ shapeOf (noteAfter (fillSheet (now (sheet .entry)) (record { left = now (left .entry); right = now (right .entry) }) (requestOf (noteOf note) (length (now (out .entry))))) (noteOf note)) ⌝ }
-    ensures buffer { λ _. ⌜ now (out .exit) ≡ blockAfter (fillSheet (now (sheet .entry)) (record { left = now (left .entry); right = now (right .entry) }) (requestOf (noteOf note) (length (now (out .entry))))) (now (out .entry)) ⌝ }
+    ensures refusal { λ r. ⌜ r .refusal ≡ refusalOf (afterFill (now (sheet .entry)) (record { left = now (left .entry); right = now (right .entry) }) (noteOf note) (now (out .entry)) .answer) ⌝ }
+    ensures sounding { λ r. ⌜ r .sounding ≡ soundingOf (afterFill (now (sheet .entry)) (record { left = now (left .entry); right = now (right .entry) }) (noteOf note) (now (out .entry)) .answer) ⌝ }
+    ensures note { λ r. ⌜ r .note ≡ shapeOf (afterFill (now (sheet .entry)) (record { left = now (left .entry); right = now (right .entry) }) (noteOf note) (now (out .entry)) .note) ⌝ }
+    ensures buffer { λ _. ⌜ now (out .exit) ≡ afterFill (now (sheet .entry)) (record { left = now (left .entry); right = now (right .entry) }) (noteOf note) (now (out .entry)) .buffer ⌝ }
 {
     let before = note_of(note);
     let filled = before.fill(sheet, left, right, out);

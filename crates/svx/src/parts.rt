@@ -1,10 +1,10 @@
 // Parts of samples, by their start and length.
-use header::SampleCount;
-use header::VoiceHeader;
-use octaves::Part;
-use octaves::Side;
-use octaves::repeat_part;
-use octaves::side_part;
+use voice::Part;
+use voice::SampleCount;
+use voice::Side;
+use voice::VoiceHeader;
+use voice::repeat_part;
+use voice::side_part;
 ghost use mathlib.Core.Path.{_≡_};
 ghost use mathlib.Core.Bool.{cond};
 ghost use Rattle.header.specs.Octaves.{hi, inOctave};

@@ -1,8 +1,8 @@
 // The sheet record by record, and judged.
-use sheet::Judged;
-use sheet::RecordStep;
-use sheet::judge_sheet;
-use sheet::record_at;
+use voice::Judged;
+use voice::RecordStep;
+use voice::judge_sheet;
+use voice::record_at;
 ghost use mathlib.Core.Path.{_≡_};
 ghost use Rattle.sheet.specs.Judge.{judged};
 ghost use Rattle.sheet.specs.Record.{recordAt};
