@@ -26,7 +26,7 @@ use Rattle.note_frame.specs.declared.chain.Frame.{Frame}
 use Rattle.note_frame.specs.declared.playing.Playing.{Playing}
 use Rattle.note_frame.proofs.FramesLaws.{frames-length, interleaved-length}
 use Rattle.note_rules.proofs.RuleLaws.{none-of}
-use Rattle.note.specs.Fill.{fillVoice, fillSheet, callsLeave, afterFill}
+use Rattle.note.specs.Fill.{fillVoice, fillSheet, fillLeaves, afterFill}
 use Rattle.note.specs.declared.Answer.{Answer}
 use Rattle.note.specs.declared.Answer.the-variants.{Sounding, Refused}
 use Rattle.note.specs.declared.Note.{Note}
@@ -53,11 +53,11 @@ module _ (s : Sides) (n : Playing) (frames places : ℕ) (block : List Frame) wh
 -- ---- by the outcome
 
 module _ (n : Note) (b b′ : List ℤ) where
-  outcome-answer : (o : Outcome (List Frame)) → callsLeave o n b .answer ≡ callsLeave o n b′ .answer
+  outcome-answer : (o : Outcome (List Frame)) → fillLeaves o n b .answer ≡ fillLeaves o n b′ .answer
   outcome-answer (gives block) = refl
   outcome-answer (refuses number) = refl
 
-  outcome-note : (o : Outcome (List Frame)) → callsLeave o n b .note ≡ callsLeave o n b′ .note
+  outcome-note : (o : Outcome (List Frame)) → fillLeaves o n b .note ≡ fillLeaves o n b′ .note
   outcome-note (gives block) = refl
   outcome-note (refuses number) = refl
 
@@ -76,10 +76,10 @@ module _ (sheet : List ℕ) (s : Sides) (n : Note) where
 
   module _ (b b′ : List ℤ) (e : length b ≡ length b′) where
     pub same-answer : afterFill sheet s n b .answer ≡ afterFill sheet s n b′ .answer
-    same-answer = ap (λ (k : ℕ). callsLeave (fillOf k) n b .answer) e ∙ outcome-answer n b b′ (fillOf (length b′))
+    same-answer = ap (λ (k : ℕ). fillLeaves (fillOf k) n b .answer) e ∙ outcome-answer n b b′ (fillOf (length b′))
 
     pub same-note : afterFill sheet s n b .note ≡ afterFill sheet s n b′ .note
-    same-note = ap (λ (k : ℕ). callsLeave (fillOf k) n b .note) e ∙ outcome-note n b b′ (fillOf (length b′))
+    same-note = ap (λ (k : ℕ). fillLeaves (fillOf k) n b .note) e ∙ outcome-note n b b′ (fillOf (length b′))
 
   -- the block that a fill of so many places puts out
   abbrev pub blockOf : ℕ → List ℤ
@@ -89,7 +89,7 @@ module _ (sheet : List ℕ) (s : Sides) (n : Note) where
   accepted-length places = go (fillOf (length (zeros places))) (λ block e. block-places s (n .playing) (n .frames) (length (zeros places)) block sheet e)
     where
       go : (o : Outcome (List Frame)) → ((block : List Frame) → o ≡ gives block → length (interleaved block) ≡ length (zeros places))
-          → length (acceptedBlock (callsLeave o n (zeros places) .answer) (callsLeave o n (zeros places) .buffer)) ≡ length (acceptedBlock (callsLeave o n (zeros places) .answer) (zeros places))
+          → length (acceptedBlock (fillLeaves o n (zeros places) .answer) (fillLeaves o n (zeros places) .buffer)) ≡ length (acceptedBlock (fillLeaves o n (zeros places) .answer) (zeros places))
       go (gives block) long = long block refl
       go (refuses number) long = refl
 
@@ -99,7 +99,7 @@ module _ (sheet : List ℕ) (s : Sides) (n : Note) where
     part-places = length-take-le size (drop at d) (omega (arith, length-drop at d)) ∙ is ∙ sym (length-replicate places (pos 0))
 
     stored-by : (o : Outcome (List Frame)) → ((block : List Frame) → o ≡ gives block → length (interleaved block) ≡ size)
-        → take at d ++ (callsLeave o n (take size (drop at d)) .buffer ++ drop size (drop at d)) ≡ sets d at (acceptedBlock (callsLeave o n (zeros places) .answer) (callsLeave o n (zeros places) .buffer))
+        → take at d ++ (fillLeaves o n (take size (drop at d)) .buffer ++ drop size (drop at d)) ≡ sets d at (acceptedBlock (fillLeaves o n (zeros places) .answer) (fillLeaves o n (zeros places) .buffer))
     stored-by (gives block) long =
         let fits : at + length (interleaved block) ≤ length d = omega (arith, long block refl) in
         rw (sets-eq (interleaved block) d at fits, long block refl, drop-drop size at d) (sym (append-assoc (take at d) (interleaved block) (drop (at + size) d)))
@@ -107,6 +107,6 @@ module _ (sheet : List ℕ) (s : Sides) (n : Note) where
 
     pub part-stored : take at d ++ (afterFill sheet s n (take size (drop at d)) .buffer ++ drop size (drop at d)) ≡ sets d at (blockOf places)
     part-stored =
-        ap (λ (k : ℕ). take at d ++ (callsLeave (fillOf k) n (take size (drop at d)) .buffer ++ drop size (drop at d))) part-places
+        ap (λ (k : ℕ). take at d ++ (fillLeaves (fillOf k) n (take size (drop at d)) .buffer ++ drop size (drop at d))) part-places
         ∙ stored-by (fillOf (length (zeros places)))
         (λ block e. block-places s (n .playing) (n .frames) (length (zeros places)) block sheet e ∙ length-replicate places (pos 0) ∙ sym is)

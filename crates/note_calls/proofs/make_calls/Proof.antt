@@ -7,7 +7,7 @@ use borrow.Author.Tests.{not-true, not-false}
 use lib.ListN.{length}
 use Rattle.body_read.specs.Sides.{Sides}
 use Rattle.note_calls.specs.Play.{play, lastNote}
-use Rattle.note_calls.specs.Made.{hostCalls, roomFor, MadeResult, callsLeave, refused}
+use Rattle.note_calls.specs.Made.{hostCalls, roomFor, MadeResult, callsLeave, noRoom}
 use Rattle.note_calls.proofs.make_calls.Statement.{statement}
 use Rattle.note_calls.proofs.make_calls.Tie as tie
 
@@ -20,7 +20,7 @@ left-by s t =
     let a = s .args in
     let calls = hostCalls (a .calls .now) in
     cond t (callsLeave (play (a .sheet .now) (sides s) (a .note) calls) (lastNote (a .sheet .now) (sides s) (a .note) calls) (a .out .now) (a .answers .now))
-    (refused (a .out .now) (a .answers .now))
+    (noRoom (a .out .now) (a .answers .now))
 
 -- where the room is known, and where it is there
 abbrev start : tie.After-has-room → tie.Start
