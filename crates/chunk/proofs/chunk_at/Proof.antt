@@ -8,6 +8,10 @@ use Rattle.chunk.proofs.chunk_at.Statement.{statement}
 use Rattle.chunk.proofs.chunk_at.Tie as tie
 use Rattle.chunk.proofs.ChunkLaws.{step-end, step-past, step-whole}
 
+-- earlier places of the code
+abbrev start : tie.Else3 → tie.Start
+start c = c .before .before .before .before .before .before
+
 returns : tie.Need-returns
 returns c = sym (step-end _ _ (omega arith))
 
@@ -42,7 +46,7 @@ add-next : tie.Need-add-next
 add-next c = search needs
 
 returns-4 : tie.Need-returns-4
-returns-4 c = let a = c .before .before .before .before .before .before .args in cc (step-whole (now (a .form)) (a .at) (omega arith) (omega arith))
+returns-4 c = let a = start c .args in cc (step-whole (now (a .form)) (a .at) (omega arith) (omega arith))
 
 pub chunk-at-spec : {M : Type 1} → statement M
 chunk-at-spec =

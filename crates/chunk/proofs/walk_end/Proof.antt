@@ -8,6 +8,10 @@ use Rattle.chunk.proofs.walk_end.Statement.{statement}
 use Rattle.chunk.proofs.walk_end.Tie as tie
 use Rattle.chunk.proofs.ChunkLaws.{end-file, end-length}
 
+-- earlier places of the code
+abbrev start : tie.Else2 → tie.Start
+start c = c .before .before .before .before
+
 returns : tie.Need-returns
 returns c = (sym (end-file _ (omega arith)), omega arith)
 
@@ -24,7 +28,7 @@ returns-2 : tie.Need-returns-2
 returns-2 c = (sym (end-file _ (omega arith)), omega arith)
 
 returns-3 : tie.Need-returns-3
-returns-3 c = (omega (arith, end-length (now (c .before .before .before .before .args .file)) (omega arith)), omega arith)
+returns-3 c = (omega (arith, end-length (now (start c .args .file)) (omega arith)), omega arith)
 
 pub walk-end-spec : {M : Type 1} → statement M
 walk-end-spec = tie.close (tie.spec returns read32-requires cast-end add-end returns-2 returns-3)

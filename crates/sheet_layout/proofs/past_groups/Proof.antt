@@ -16,6 +16,13 @@ Inv-loop sheet at opens member n i₀ i = i + stretch opens member n (drop i she
 abbrev μ-loop : tie.MeasureT-loop
 μ-loop sheet at opens member n i₀ i = length sheet - i
 
+-- earlier places of the code
+abbrev turn : tie.Else1 Inv-loop μ-loop → tie.At-loop Inv-loop μ-loop
+turn c = c .before .before .before
+
+abbrev turn-from-then1 : tie.Then1 Inv-loop μ-loop → tie.At-loop Inv-loop μ-loop
+turn-from-then1 c = c .before .before .before
+
 loop-holds : tie.Need-loop-holds Inv-loop μ-loop
 loop-holds c = refl
 
@@ -30,8 +37,8 @@ loop-less c = omega arith
 
 loop-again : tie.Need-loop-again Inv-loop μ-loop
 loop-again c =
-    let a = c .before .before .before .before .args in
-    let l = c .before .before .before .loop in
+    let a = turn-from-then1 c .before .args in
+    let l = turn-from-then1 c .loop in
     run-open (a .sheet .now) (l .i) (a .opens) (a .member) (a .n) (starts-own (a .sheet .now) (l .i) (omega arith) (a .opens) (c .if1 .taken)) ∙ l .inv
 
 add-i-2 : tie.Need-add-i-2 Inv-loop μ-loop
@@ -42,8 +49,8 @@ loop-less-2 c = omega arith
 
 loop-again-2 : tie.Need-loop-again-2 Inv-loop μ-loop
 loop-again-2 c =
-    let a = c .before .before .before .before .before .args in
-    let l = c .before .before .before .before .loop in
+    let a = turn (c .before) .before .args in
+    let l = turn (c .before) .loop in
     run-member (a .sheet .now) (l .i) (a .opens) (a .member) (a .n) (omega arith)
     (starts-other (a .sheet .now) (l .i) (omega arith) (a .opens) (c .before .if1 .left))
     (starts-own (a .sheet .now) (l .i) (omega arith) (a .member) (c .if2 .taken))
@@ -51,8 +58,8 @@ loop-again-2 c =
 
 returns : tie.Need-returns Inv-loop μ-loop
 returns c =
-    let a = c .before .before .before .before .before .args in
-    let l = c .before .before .before .before .loop in
+    let a = turn (c .before) .before .args in
+    let l = turn (c .before) .loop in
     run-end (a .sheet .now) (l .i) (a .opens) (a .member) (a .n)
     (starts-other (a .sheet .now) (l .i) (omega arith) (a .opens) (c .before .if1 .left))
     (starts-other (a .sheet .now) (l .i) (omega arith) (a .member) (c .if2 .left))

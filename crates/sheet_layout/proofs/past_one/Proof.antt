@@ -6,6 +6,13 @@ use Rattle.sheet_layout.proofs.StretchLaws.{starts-past, starts-own, st
 use Rattle.sheet_layout.proofs.past_one.Statement.{statement}
 use Rattle.sheet_layout.proofs.past_one.Tie as tie
 
+-- earlier places of the code
+abbrev start : tie.Else2 → tie.Start
+start c = c .before .before .before
+
+abbrev start-from-then2 : tie.Then2 → tie.Start
+start-from-then2 c = c .before .before .before
+
 returns : tie.Need-returns
 returns c = let a = c .before .args in rw (starts-past (a .sheet .now) (a .at) (a .kind) (c .if1 .taken)) (omega arith)
 
@@ -14,7 +21,7 @@ shared-slice-read-if2 c = search needs
 
 returns-2 : tie.Need-returns-2
 returns-2 c =
-    let a = c .before .before .before .args in
+    let a = start-from-then2 c .args in
     rw (starts-other (a .sheet .now) (a .at) (omega arith) (a .kind) (c .if2 .taken)) (omega arith)
 
 add-next : tie.Need-add-next
@@ -22,7 +29,7 @@ add-next c = search needs
 
 returns-3 : tie.Need-returns-3
 returns-3 c =
-    let a = c .before .before .before .args in
+    let a = start c .args in
     rw (starts-own (a .sheet .now) (a .at) (omega arith) (a .kind) (c .if2 .left))
 
 pub past-one-spec : {M : Type 1} → statement M

@@ -21,24 +21,37 @@ use Rattle.sheet_layout.proofs.ThereLaws.{Present, channel-missing, cha
 use Rattle.sheet_layout.proofs.sheet_channel.Statement.{statement}
 use Rattle.sheet_layout.proofs.sheet_channel.Tie as tie
 
+-- earlier places of the code
+abbrev call : tie.Then1 → tie.Start
+call c = c .before .before .before
+
+abbrev call-from-else1 : tie.Else1 → tie.Start
+call-from-else1 c = c .before .before .before
+
+abbrev else1 : tie.After-from-raw → tie.Else1
+else1 c = c .before .before
+
+abbrev after-from-raw : tie.After-known-told → tie.After-from-raw
+after-from-raw c = c .before .before .before
+
 returns : tie.Need-returns
 returns c =
-    let start = c .before .before .before in
+    let start = call c in
     sym (ap channelAnswer (channel-missing (readSheet (start .args .sheet .now)) (start .args .l) (start .pre .1) (c .if1 .taken)))
 
 -- it is there
 here : (c : tie.Else1) →
-    let a = c .before .before .before .args in
+    let a = call-from-else1 c .args in
     let v = readSheet (a .sheet .now) in
     Present (λ x. channelValueOf x ∷ []) (v .channel) (a .l .channel) (a .sheet .now) (fromPan v)
 here c =
-    let start = c .before .before .before in
+    let start = call-from-else1 c in
     let s = start .args .sheet .now in
     channel-present (readSheet s) (start .args .l) (start .pre .1) s (sound-flat s (c .before .before .shared-slice-known .given) (start .pre .0)) (c .if1 .left)
 
 -- its byte reads as the assignment
 parsed-here : (c : tie.Else1) →
-    let a = c .before .before .before .args in
+    let a = call-from-else1 c .args in
     channelOf (getD (a .sheet .now) (a .l .channel + 1) 0) ≡ Parsed (here c .value)
 parsed-here c = ap channelOf (channel-byte (here c)) ∙ channel-back (here c .value)
 
@@ -62,14 +75,15 @@ enum-told c = search needs
 
 returns-2 : tie.Need-returns-2
 returns-2 c =
-    let p = here (c .before .before .before .before .before) in
-    let found : Parsed (p .value) ≡ Parsed (c .before .parsed .given .0 .0) = sym (c .before .before .before .from-raw .ensures ∙ parsed-here (c .before .before .before .before .before)) ∙ c .before .parsed .given .1 in
+    let r = after-from-raw c in
+    let p = here (r .before .before) in
+    let found : Parsed (p .value) ≡ Parsed (c .before .parsed .given .0 .0) = sym (r .from-raw .ensures ∙ parsed-here (r .before .before)) ∙ c .before .parsed .given .1 in
     let same : c .before .parsed .given .0 .0 ≡ p .value = cc in
     ap Channel same ∙ sym (ap channelAnswer (p .is))
 
 returns-3 : tie.Need-returns-3
 returns-3 c =
-    let found = sym (c .before .before .from-raw .ensures ∙ parsed-here (c .before .before .before .before)) ∙ c .enum-told .given .1 in
+    let found = sym (c .before .before .from-raw .ensures ∙ parsed-here (else1 (c .before .before))) ∙ c .enum-told .given .1 in
     let z : _≡_ {A = ℕ} 0 1 = cc in
     absurd (omega arith)
 

@@ -14,18 +14,25 @@ use Rattle.sheet_layout.proofs.ThereLaws.{Present, present-read, fade-m
 use Rattle.sheet_layout.proofs.sheet_fade.Statement.{statement}
 use Rattle.sheet_layout.proofs.sheet_fade.Tie as tie
 
+-- earlier places of the code
+abbrev call : tie.After-shared-slice-known → tie.Start
+call c = c .before
+
+abbrev after-shared-slice-known : tie.After-read-fade → tie.After-shared-slice-known
+after-shared-slice-known c = c .before .before .before
+
 returns : tie.Need-returns
 returns c =
-    let start = c .before .before .before in
+    let start = call (c .before .before) in
     sym (ap fadeAnswer (fade-missing (readSheet (start .args .sheet .now)) (start .args .l) (start .pre .1) (c .if1 .taken)))
 
 -- it is there
 here : (c : tie.Else1) →
-    let a = c .before .before .before .args in
+    let a = call (c .before .before) .args in
     let v = readSheet (a .sheet .now) in
     Present fadeBytes (v .fade) (a .l .fade) (a .sheet .now) (fromTexts v)
 here c =
-    let start = c .before .before .before in
+    let start = call (c .before .before) in
     let s = start .args .sheet .now in
     fade-present (readSheet s) (start .args .l) (start .pre .1) s (sound-flat s (c .before .before .shared-slice-known .given) (start .pre .0)) (c .if1 .left)
 
@@ -37,8 +44,8 @@ read-fade-requires c κs = let p = here c in omega (arith, fade-length (p .value
 
 returns-2 : tie.Need-returns-2
 returns-2 c =
-    let start = c .before .before .before .before in
-    let allowed = sound-allowed (start .args .sheet .now) (c .before .before .before .shared-slice-known .given) (start .pre .0) in
+    let start = after-shared-slice-known c .before in
+    let allowed = sound-allowed (start .args .sheet .now) (after-shared-slice-known c .shared-slice-known .given) (start .pre .0) in
     ap Fades (c .read-fade .ensures) ∙ sym (ap fadeAnswer (present-read fadeOf FadeFits (λ a r f. fade-back a r (f .segment)) (here (c .before)) (allowed .fade)))
 
 pub sheet-fade-spec : {M : Type 1} → statement M

@@ -14,18 +14,25 @@ use Rattle.sheet_layout.proofs.ThereLaws.{Present, present-read, pan-mi
 use Rattle.sheet_layout.proofs.sheet_pan.Statement.{statement}
 use Rattle.sheet_layout.proofs.sheet_pan.Tie as tie
 
+-- earlier places of the code
+abbrev call : tie.After-shared-slice-known → tie.Start
+call c = c .before
+
+abbrev after-shared-slice-known : tie.After-read-pan → tie.After-shared-slice-known
+after-shared-slice-known c = c .before .before .before
+
 returns : tie.Need-returns
 returns c =
-    let start = c .before .before .before in
+    let start = call (c .before .before) in
     sym (ap panAnswer (pan-missing (readSheet (start .args .sheet .now)) (start .args .l) (start .pre .1) (c .if1 .taken)))
 
 -- it is there
 here : (c : tie.Else1) →
-    let a = c .before .before .before .args in
+    let a = call (c .before .before) .args in
     let v = readSheet (a .sheet .now) in
     Present panBytes (v .pan) (a .l .pan) (a .sheet .now) (fromAttacks v)
 here c =
-    let start = c .before .before .before in
+    let start = call (c .before .before) in
     let s = start .args .sheet .now in
     pan-present (readSheet s) (start .args .l) (start .pre .1) s (sound-flat s (c .before .before .shared-slice-known .given) (start .pre .0)) (c .if1 .left)
 
@@ -37,8 +44,8 @@ read-pan-requires c κs = let p = here c in omega (arith, pan-length (p .value))
 
 returns-2 : tie.Need-returns-2
 returns-2 c =
-    let start = c .before .before .before .before in
-    let allowed = sound-allowed (start .args .sheet .now) (c .before .before .before .shared-slice-known .given) (start .pre .0) in
+    let start = after-shared-slice-known c .before in
+    let allowed = sound-allowed (start .args .sheet .now) (after-shared-slice-known c .shared-slice-known .given) (start .pre .0) in
     ap Panned (c .read-pan .ensures) ∙ sym (ap panAnswer (present-read panOf PanFits (λ a r f. pan-back a r (f .position)) (here (c .before)) (allowed .pan)))
 
 pub sheet-pan-spec : {M : Type 1} → statement M

@@ -8,6 +8,10 @@ use Rattle.sheet_layout.proofs.ThereLaws.{sequence-missing, sequence-wi
 use Rattle.sheet_layout.proofs.sheet_sequence.Statement.{statement}
 use Rattle.sheet_layout.proofs.sheet_sequence.Tie as tie
 
+-- earlier places of the code
+abbrev call : tie.After-struct-known2 → tie.Start
+call c = c .before .before .before
+
 returns : tie.Need-returns
 returns c =
     let start = c .before .before in
@@ -15,17 +19,17 @@ returns c =
 
 sub-segments : tie.Need-sub-segments
 sub-segments c =
-    let start = c .before .before .before in
+    let start = call c in
     sequence-within (readSheet (start .args .sheet .now)) (start .args .l) (start .pre .1)
 
 sub-segments-2 : tie.Need-sub-segments-2
 sub-segments-2 c =
-    let start = c .before .before .before in
+    let start = call c in
     omega (arith, c .before .if1 .left, sequence-within (readSheet (start .args .sheet .now)) (start .args .l) (start .pre .1))
 
 returns-2 : tie.Need-returns-2
 returns-2 c =
-    let start = c .before .before .before in
+    let start = call c in
     sequence-counted (readSheet (start .args .sheet .now)) (start .args .l) (start .pre .1) (c .before .if1 .left)
 
 pub sheet-sequence-spec : {M : Type 1} → statement M

@@ -20,6 +20,13 @@ use Rattle.sheet_layout.proofs.ThereLaws.{Present, channel-missing, cha
 use Rattle.sheet_layout.proofs.sheet_stereo.Statement.{statement}
 use Rattle.sheet_layout.proofs.sheet_stereo.Tie as tie
 
+-- earlier places of the code
+abbrev call : tie.Else1 → tie.Start
+call c = c .before .before .before
+
+abbrev call-from-then1 : tie.Then1 → tie.Start
+call-from-then1 c = c .before .before .before
+
 past-one-requires : tie.Need-past-one-requires
 past-one-requires c κs = search needs
 
@@ -36,17 +43,17 @@ passed c =
 returns : tie.Need-returns
 unfolding channelAt
 returns c =
-    let v = readSheet (c .before .before .before .args .sheet .now) in
+    let v = readSheet (call-from-then1 c .args .sheet .now) in
     sym (ap isStereo (channel-missing v (layoutOf v) refl (sym (c .if1 .taken) ∙ passed (c .before))))
 
 -- it is there
 here : (c : tie.Else1) →
-    let s = c .before .before .before .args .sheet .now in
+    let s = call c .args .sheet .now in
     let v = readSheet s in
     Present (λ x. channelValueOf x ∷ []) (v .channel) 21 s (fromPan v)
 unfolding channelAt
 here c =
-    let start = c .before .before .before in
+    let start = call c in
     let s = start .args .sheet .now in
     let v = readSheet s in
     let e = sound-flat s (c .before .before .shared-slice-known .given) (start .pre) in

@@ -16,17 +16,33 @@ use Rattle.octaves.proofs.PartLaws.{octave-whole, octave-sole, octave-p
 use Rattle.octaves.proofs.octave_parts.octave_part.Statement.{statement}
 use Rattle.octaves.proofs.octave_parts.octave_part.Tie as tie
 
+-- earlier places of the code
+abbrev start : tie.Else1 → tie.Start
+start c = c .before .before
+
+abbrev start-from-else2 : tie.Else2 → tie.Start
+start-from-else2 c = c .before .before .before
+
+abbrev start-from-then2 : tie.Then2 → tie.Start
+start-from-then2 c = c .before .before .before
+
+abbrev else1 : tie.Joined4 → tie.Else1
+else1 c = c .before .before .before
+
+abbrev else1-from-then5 : tie.Then5 → tie.Else1
+else1-from-then5 c = c .before .before .before .before
+
 hi-octave-samples-requires : tie.Need-hi-octave-samples-requires
 hi-octave-samples-requires c κs = search needs
 
 returns : tie.Need-returns
 returns c =
-    let a = c .before .before .before .args in
+    let a = start-from-then2 c .args in
     sym (octave-whole (a .h) (a .samples) (a .k) (sym (c .before .before .hi-octave-samples .ensures) ∙ c .before .if1 .taken) (c .if2 .taken))
 
 returns-2 : tie.Need-returns-2
 returns-2 c =
-    let a = c .before .before .before .args in
+    let a = start-from-else2 c .args in
     sym (octave-sole (a .h) (a .samples) (a .k) (sym (c .before .before .hi-octave-samples .ensures) ∙ c .before .if1 .taken) (c .if2 .left))
 
 -- there are samples
@@ -35,7 +51,7 @@ some c z = c .if1 .left (c .before .hi-octave-samples .ensures ∙ z)
 
 returns-3 : tie.Need-returns-3
 returns-3 c =
-    let a = c .before .before .before .args in
+    let a = start (c .before) .args in
     let there = some (c .before) in
     let large : 2 ^ 64 ≤ 2 ^ a .k = pow-mono {i = 64} {j = a .k} (omega arith) in
     let one : 1 ≤ hi (a .h) = omega arith in
@@ -43,25 +59,25 @@ returns-3 c =
 
 returns-4 : tie.Need-returns-4
 returns-4 c =
-    let a = c .before .before .before .before .before .before .args in
-    sym (octave-past (a .h) (a .samples) (a .k) (some (c .before .before .before .before)) (omega arith))
+    let a = else1-from-then5 c .before .before .args in
+    sym (octave-past (a .h) (a .samples) (a .k) (some (else1-from-then5 c)) (omega arith))
 
 -- k is below 64 and below the number of octaves
 module _ (c : tie.Joined4) where
   abbrev h : VoiceHeader
-  h = c .before .before .before .before .before .args .h
+  h = else1 c .before .before .args .h
 
   abbrev samples : ℕ
-  samples = c .before .before .before .before .before .args .samples
+  samples = start (else1 c) .args .samples
 
   abbrev k : ℕ
-  k = c .before .before .before .before .before .args .k
+  k = start (else1 c) .args .k
 
   abbrev highest : ℕ
-  highest = c .before .before .before .before .hi-octave-samples .result
+  highest = else1 c .before .hi-octave-samples .result
 
   is-hi : highest ≡ hi h
-  is-hi = c .before .before .before .before .hi-octave-samples .ensures
+  is-hi = else1 c .before .hi-octave-samples .ensures
 
   below : k < octaves h
   below = ⊎-elim (λ w. omega arith) (λ w. omega arith) (c .if4 .came)
@@ -87,7 +103,7 @@ div-if6 c = through-pos (h c) (samples c) (k c) (highest c) _ (is-hi c) (shifted
 returns-5 : tie.Need-returns-5
 returns-5 c =
     let e = c .before in
-    sym (octave-short (h e) (samples e) (k e) (some (e .before .before .before)) (octave-exceeds (h e) (samples e) (k e) (highest e) _ (is-hi e) (shifted e) (c .if6 .taken)))
+    sym (octave-short (h e) (samples e) (k e) (some (else1 e)) (octave-exceeds (h e) (samples e) (k e) (highest e) _ (is-hi e) (shifted e) (c .if6 .taken)))
 
 -- the octave ends within the samples
 fits : (c : tie.Else6) → hi (h (c .before)) * (2 ^ k (c .before) - 1) + hi (h (c .before)) * 2 ^ k (c .before) ≤ samples (c .before)
@@ -109,7 +125,7 @@ mul-n c = omega (arith, length-is c, fits c)
 returns-6 : tie.Need-returns-6
 returns-6 c =
     let e = c .before in
-    ap₂ At (start-is c) (length-is c) ∙ sym (octave-at (h e) (samples e) (k e) (some (e .before .before .before)) (below e) (fits c))
+    ap₂ At (start-is c) (length-is c) ∙ sym (octave-at (h e) (samples e) (k e) (some (else1 e)) (below e) (fits c))
 
 pub octave-part-spec : {M : Type 1} → statement M
 octave-part-spec =

@@ -11,6 +11,10 @@ use Rattle.octaves.specs.Octave.{repeatFrom, repeatAfter}
 use Rattle.octaves.proofs.octave_parts.repeat_from.Statement.{statement}
 use Rattle.octaves.proofs.octave_parts.repeat_from.Tie as tie
 
+-- earlier places of the code
+abbrev start : tie.After-enum-told → tie.Start
+start c = c .before .before .before
+
 repeat-samples-requires : tie.Need-repeat-samples-requires
 repeat-samples-requires c κs = search needs
 
@@ -22,22 +26,26 @@ enum-known-repeat c = search needs
 
 -- the header has a repeat part for octave k
 module _ (c : tie.After-known-told) where
+  -- after the repeat part's length was asked for
+  abbrev asked : tie.After-repeat-samples
+  asked = c .before .before .before
+
   abbrev there : ℕ
   there = c .before .repeat .given .0 .0
 
   abbrev n : ℕ
-  n = c .before .before .before .before .args .n
+  n = asked .before .args .n
 
   abbrev one-shot : ℕ
-  one-shot = c .before .before .before .before .args .one-shot
+  one-shot = asked .before .args .one-shot
 
-  told : repeatFrom (c .before .before .before .before .args .h) n (c .before .before .before .before .args .k) one-shot ≡ repeatAfter (Samples there) n one-shot
-  told = ap (λ x. repeatAfter x n one-shot) (sym (c .before .before .before .repeat-samples .ensures) ∙ c .before .repeat .given .1)
+  told : repeatFrom (asked .before .args .h) n (asked .before .args .k) one-shot ≡ repeatAfter (Samples there) n one-shot
+  told = ap (λ x. repeatAfter x n one-shot) (sym (asked .repeat-samples .ensures) ∙ c .before .repeat .given .1)
 
-  apart : (one-shot + there ≡ n → ⊥) → Absent ≡ repeatFrom (c .before .before .before .before .args .h) n (c .before .before .before .before .args .k) one-shot
+  apart : (one-shot + there ≡ n → ⊥) → Absent ≡ repeatFrom (asked .before .args .h) n (asked .before .args .k) one-shot
   apart e = sym (told ∙ rw (ne-eqb (one-shot + there) n e))
 
-  joined : one-shot + there ≡ n → Samples one-shot ≡ repeatFrom (c .before .before .before .before .args .h) n (c .before .before .before .before .args .k) one-shot
+  joined : one-shot + there ≡ n → Samples one-shot ≡ repeatFrom (asked .before .args .h) n (asked .before .args .k) one-shot
   joined e = sym (told ∙ rw (eq-eqb (one-shot + there) n e))
 
 returns : tie.Need-returns
@@ -48,7 +56,7 @@ returns-2 c = apart (c .before .before) (λ e. omega arith)
 
 returns-3 : tie.Need-returns-3
 returns-3 c =
-    let a = c .before .before .before .args in
+    let a = start c .args in
     sym (ap (λ x. repeatAfter x (a .n) (a .one-shot)) (sym (c .before .before .repeat-samples .ensures) ∙ c .enum-told .given .1))
 
 returns-4 : tie.Need-returns-4

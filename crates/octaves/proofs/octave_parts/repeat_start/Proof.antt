@@ -6,6 +6,13 @@ use Rattle.octaves.specs.Octave.{repeatFrom, afterOneShot}
 use Rattle.octaves.proofs.octave_parts.repeat_start.Statement.{statement}
 use Rattle.octaves.proofs.octave_parts.repeat_start.Tie as tie
 
+-- earlier places of the code
+abbrev start : tie.After-one-shot-samples → tie.Start
+start c = c .before
+
+abbrev after-one-shot-samples : tie.After-repeat-from → tie.After-one-shot-samples
+after-one-shot-samples c = c .before .before .before .before
+
 one-shot-samples-requires : tie.Need-one-shot-samples-requires
 one-shot-samples-requires c κs = search needs
 
@@ -20,14 +27,14 @@ repeat-from-requires c κs = search needs
 
 returns : tie.Need-returns
 returns c =
-    let a = c .before .before .before .args in
+    let a = start (c .before .before) .args in
     sym (ap (λ x. afterOneShot x (repeatFrom (a .h) (a .n) (a .k))) (sym (c .before .before .one-shot-samples .ensures) ∙ c .enum-told .given .1))
 
 returns-2 : tie.Need-returns-2
 returns-2 c =
-    let a = c .before .before .before .before .before .args in
+    let a = after-one-shot-samples c .before .args in
     c .repeat-from .ensures
-    ∙ sym (ap (λ x. afterOneShot x (repeatFrom (a .h) (a .n) (a .k))) (sym (c .before .before .before .before .one-shot-samples .ensures) ∙ c .before .before .one-shot .given .1))
+    ∙ sym (ap (λ x. afterOneShot x (repeatFrom (a .h) (a .n) (a .k))) (sym (after-one-shot-samples c .one-shot-samples .ensures) ∙ c .before .before .one-shot .given .1))
 
 pub repeat-start-spec : {M : Type 1} → statement M
 repeat-start-spec =

@@ -11,6 +11,10 @@ use Rattle.octaves.specs.ForCode.{LiesWithin}
 use Rattle.octaves.proofs.part.part_of.Statement.{statement}
 use Rattle.octaves.proofs.part.part_of.Tie as tie
 
+-- earlier places of the code
+abbrev call : tie.After-known-told → tie.Start
+call c = c .before .before .before
+
 enum-told : tie.Need-enum-told
 enum-told c = search needs
 
@@ -21,8 +25,8 @@ enum-known-part : tie.Need-enum-known-part
 enum-known-part c = search needs
 
 -- it ends within the slice
-inside : (c : tie.After-known-told) → c .before .part .given .0 .0 + c .before .part .given .0 .1 .0 ≤ length (now (c .before .before .before .args .samples))
-inside c = subst (λ p. LiesWithin p (length (now (c .before .before .before .args .samples)))) (c .before .part .given .1) (c .before .before .before .pre)
+inside : (c : tie.After-known-told) → c .before .part .given .0 .0 + c .before .part .given .0 .1 .0 ≤ length (now (call c .args .samples))
+inside c = subst (λ p. LiesWithin p (length (now (call c .args .samples)))) (c .before .part .given .1) (call c .pre)
 
 add-end : tie.Need-add-end
 add-end c = omega (arith, inside c)
@@ -41,7 +45,7 @@ returns c = search needs
 
 returns-2 : tie.Need-returns-2
 returns-2 c =
-    let a = c .before .before .before .before .args in
+    let a = call (c .before) .args in
     let start = c .before .before .part .given .0 .0 in
     let n = c .before .before .part .given .0 .1 .0 in
     rw (c .before .before .part .given .1)

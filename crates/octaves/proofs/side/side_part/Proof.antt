@@ -9,6 +9,13 @@ use Rattle.octaves.specs.declared.part.Part.the-variants.{Absent}
 use Rattle.octaves.proofs.side.side_part.Statement.{statement}
 use Rattle.octaves.proofs.side.side_part.Tie as tie
 
+-- earlier places of the code
+abbrev start : tie.After-judge-sheet → tie.Start
+start c = c .before .before
+
+abbrev after-judge-sheet : tie.After-sound-side → tie.After-judge-sheet
+after-judge-sheet c = c .before .before .before
+
 judge-sheet-requires : tie.Need-judge-sheet-requires
 judge-sheet-requires c κs = search needs
 
@@ -23,14 +30,14 @@ sound-side-requires c κs = sym (c .before .before .judge-sheet .ensures) ∙ c 
 
 returns : tie.Need-returns
 returns c =
-    let a = c .before .before .before .before .args in
+    let a = start (c .before .before) .args in
     sym (ap (λ j. ifSound j (λ number. Absent) (voiceSide (readSheet (a .sheet .now)) (a .side) (a .places))) (sym (c .before .before .judge-sheet .ensures) ∙ c .enum-told .given .1))
 
 returns-2 : tie.Need-returns-2
 returns-2 c =
-    let a = c .before .before .before .before .before .args in
+    let a = after-judge-sheet c .before .before .args in
     c .sound-side .ensures
-    ∙ sym (ap (λ j. ifSound j (λ number. Absent) (voiceSide (readSheet (a .sheet .now)) (a .side) (a .places))) (sym (c .before .before .before .judge-sheet .ensures) ∙ c .before .enum-told2 .given .1))
+    ∙ sym (ap (λ j. ifSound j (λ number. Absent) (voiceSide (readSheet (a .sheet .now)) (a .side) (a .places))) (sym (after-judge-sheet c .judge-sheet .ensures) ∙ c .before .enum-told2 .given .1))
 
 pub side-part-spec : {M : Type 1} → statement M
 side-part-spec =

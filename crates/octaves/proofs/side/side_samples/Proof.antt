@@ -7,6 +7,13 @@ use Rattle.octaves.proofs.PartLaws.{side-within, side-told}
 use Rattle.octaves.proofs.side.side_samples.Statement.{statement}
 use Rattle.octaves.proofs.side.side_samples.Tie as tie
 
+-- earlier places of the code
+abbrev start : tie.After-side-part2 → tie.Start
+start c = c .before .before .before .before
+
+abbrev start-from-side-part : tie.After-side-part → tie.Start
+start-from-side-part c = c .before .before .before .before
+
 enum-told : tie.Need-enum-told
 enum-told c = search needs
 
@@ -15,7 +22,7 @@ side-part-requires c κs = search needs
 
 part-of-requires : tie.Need-part-of-requires
 part-of-requires c κs =
-    let a = c .before .before .before .before .args in
+    let a = start-from-side-part c .args in
     rw (c .side-part .ensures) (side-within (a .sheet .now) Left (length (a .left .now)))
 
 enum-told-2 : tie.Need-enum-told-2
@@ -26,18 +33,18 @@ side-part-requires-2 c κs = search needs
 
 part-of-requires-2 : tie.Need-part-of-requires-2
 part-of-requires-2 c κs =
-    let a = c .before .before .before .before .args in
+    let a = start c .args in
     rw (c .side-part2 .ensures) (side-within (a .sheet .now) Right (length (a .right .now)))
 
 returns : tie.Need-returns
 returns c =
-    let a = c .before .before .before .before .before .args in
+    let a = start-from-side-part (c .before) .args in
     rw (c .before .before .enum-told .given .1)
     (side-told (a .sheet .now) Left (a .left .now) _ (a .left .ptr) _ _ (c .before .side-part .ensures) (c .part-of .ensures))
 
 returns-2 : tie.Need-returns-2
 returns-2 c =
-    let a = c .before .before .before .before .before .args in
+    let a = start (c .before) .args in
     rw (c .before .before .enum-told2 .given .1)
     (side-told (a .sheet .now) Right (a .right .now) _ (a .right .ptr) _ _ (c .before .side-part2 .ensures) (c .part-of2 .ensures))
 

@@ -17,6 +17,16 @@ use Rattle.octaves.proofs.PartLaws.{front-whole, front-short, front-at}
 use Rattle.octaves.proofs.side.sound_side.Statement.{statement}
 use Rattle.octaves.proofs.side.sound_side.Tie as tie
 
+-- earlier places of the code
+abbrev side-there-early : tie.Then2 → tie.At-match-came
+side-there-early c = c .before .before .before
+
+abbrev side-there : tie.After-total-samples-per-channel → tie.At-match-came
+side-there c = c .before .before .before .before
+
+abbrev totalled : tie.After-known-told → tie.After-total-samples-per-channel
+totalled c = c .before .before .before
+
 enum-told : tie.Need-enum-told
 enum-told c = search needs
 
@@ -50,9 +60,9 @@ hi-octave-samples-requires c κs = search needs
 
 returns-2 : tie.Need-returns-2
 returns-2 c =
-    let h = readSheet (c .before .before .before .before .before .args .sheet .now) .header in
+    let h = readSheet (side-there-early c .before .before .args .sheet .now) .header in
     let none : hi h ≡ 0 = ap hi (sym (c .before .before .sheet-header .ensures)) ∙ sym (c .before .hi-octave-samples .ensures) ∙ c .if2 .taken in
-    sym (here (c .before .before .before) ∙ front-whole h _ none)
+    sym (here (side-there-early c) ∙ front-whole h _ none)
 
 total-samples-per-channel-requires : tie.Need-total-samples-per-channel-requires
 total-samples-per-channel-requires c κs = search needs
@@ -65,14 +75,20 @@ enum-known-total c = search needs
 
 -- hi is above 0: the header, the buffer's places, and what is known of them
 module _ (c : tie.After-total-samples-per-channel) where
+  abbrev begun : tie.Start
+  begun = side-there c .before .before
+
+  abbrev header-read : tie.After-sheet-header
+  header-read = c .before .before .before
+
   abbrev h : VoiceHeader
-  h = readSheet (c .before .before .before .before .before .before .args .sheet .now) .header
+  h = readSheet (begun .args .sheet .now) .header
 
   abbrev places : ℕ
-  places = c .before .before .before .before .before .before .args .places
+  places = begun .args .places
 
-  same : c .before .before .before .sheet-header .result ≡ h
-  same = c .before .before .before .sheet-header .ensures
+  same : header-read .sheet-header .result ≡ h
+  same = header-read .sheet-header .ensures
 
   some : hi h ≡ 0 → ⊥
   some z = c .before .if2 .left (c .before .before .hi-octave-samples .ensures ∙ ap hi same ∙ z)
@@ -80,15 +96,15 @@ module _ (c : tie.After-total-samples-per-channel) where
   said : total h ≡ c .total-samples-per-channel .result
   said = sym (c .total-samples-per-channel .ensures ∙ ap total same)
 
-  short : places < totalSamples h → Absent ≡ voiceSide (readSheet (c .before .before .before .before .before .before .args .sheet .now)) (c .before .before .before .before .before .before .args .side) places
-  short l = sym (here (c .before .before .before .before) ∙ front-short h places some l)
+  short : places < totalSamples h → Absent ≡ voiceSide (readSheet (begun .args .sheet .now)) (begun .args .side) places
+  short l = sym (here (side-there c) ∙ front-short h places some l)
 
 -- the answered total is the samples of all octaves
-counted : (c : tie.After-known-told) → c .before .total .given .0 .0 ≡ totalSamples (h (c .before .before .before))
-counted c = let e = c .before .before .before in sym (total-is (h e) _ (said e ∙ c .before .total .given .1) .1)
+counted : (c : tie.After-known-told) → c .before .total .given .0 .0 ≡ totalSamples (h (totalled c))
+counted c = let e = totalled c in sym (total-is (h e) _ (said e ∙ c .before .total .given .1) .1)
 
 returns-3 : tie.Need-returns-3
-returns-3 c = short (c .before .before .before .before) (omega (arith, counted (c .before)))
+returns-3 c = short (totalled (c .before)) (omega (arith, counted (c .before)))
 
 returns-4 : tie.Need-returns-4
 returns-4 c =
@@ -98,9 +114,9 @@ returns-4 c =
 
 returns-5 : tie.Need-returns-5
 returns-5 c =
-    let e = c .before .before .before .before in
+    let e = totalled (c .before) in
     ap (At 0) (counted (c .before))
-    ∙ sym (here (e .before .before .before .before) ∙ front-at (h e) (places e) (some e) (omega (arith, counted (c .before))))
+    ∙ sym (here (side-there e) ∙ front-at (h e) (places e) (some e) (omega (arith, counted (c .before))))
 
 pub sound-side-spec : {M : Type 1} → statement M
 sound-side-spec =

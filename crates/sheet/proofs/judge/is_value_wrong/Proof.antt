@@ -11,6 +11,10 @@ use Rattle.sheet.proofs.judge.is_value_wrong.Statement.{statement}
 use Rattle.sheet.proofs.judge.is_value_wrong.Tie as tie
 use Rattle.sheet.specs.Order.{valueWrong}
 
+-- earlier places of the code
+abbrev start : tie.Else3 → tie.Start
+start c = c .before .before .before
+
 -- above 5 is not below 6
 above-five : (v : ℕ) → ltb 5 v ≡ not (ltb v 6)
 above-five v = go (ltb v 6) refl
@@ -32,7 +36,7 @@ returns-2 c = rw (c .before .if2 .taken, c .if3 .taken)
 
 returns-3 : tie.Need-returns-3
 unfolding valueWrong
-returns-3 c = let v = c .before .before .before .args .value in let h : 0 < v = omega arith in rw (c .before .if2 .taken, lt-ltb 0 v h) (above-five v)
+returns-3 c = let v = start c .args .value in let h : 0 < v = omega arith in rw (c .before .if2 .taken, lt-ltb 0 v h) (above-five v)
 
 returns-4 : tie.Need-returns-4
 unfolding valueWrong

@@ -10,6 +10,10 @@ use borrow.Author.Needs.{needs}
 use Rattle.sheet.proofs.write.put_channel.Statement.{statement}
 use Rattle.sheet.proofs.write.put_channel.Tie as tie
 
+-- earlier places of the code
+abbrev after-put-byte : tie.After-slice-known3 → tie.After-put-byte
+after-put-byte c = c .before .before .before .before .before .before
+
 channel-small : (a : ChannelAssignment) → channelValueOf a % 256 ≡ channelValueOf a
 channel-small Left = refl
 channel-small Right = refl
@@ -32,7 +36,7 @@ same-length c = search needs
 
 returns : tie.Need-returns
 returns c =
-    let e = c .before .before .before .before .before .before in
+    let e = after-put-byte c in
     let r = e .before .before in
     let value : r .raw .result % 256 ≡ channelValueOf (r .before .before .args .c) = ap (λ (n : ℕ). n % 256) (r .raw .ensures) ∙ channel-small (r .before .before .args .c) in
     rw (← value) (put-then (e .put-byte .ensures) (c .before .before .put-byte2 .ensures))

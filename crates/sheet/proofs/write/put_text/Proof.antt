@@ -5,6 +5,13 @@ use borrow.Author.Needs.{needs}
 use Rattle.sheet.proofs.write.put_text.Statement.{statement}
 use Rattle.sheet.proofs.write.put_text.Tie as tie
 
+-- earlier places of the code
+abbrev after-put-byte : tie.After-put-byte2 → tie.After-put-byte
+after-put-byte c = c .before .before .before .before
+
+abbrev after-put-byte2 : tie.After-slice-known4 → tie.After-put-byte2
+after-put-byte2 c = c .before .before .before .before .before .before
+
 put-byte-requires : tie.Need-put-byte-requires
 put-byte-requires c κs = search needs
 
@@ -19,8 +26,8 @@ same-length c = search needs
 
 returns : tie.Need-returns
 returns c =
-    let f = c .before .before .before .before .before .before in
-    put-then (put-then (f .before .before .before .before .put-byte .ensures) (f .put-byte2 .ensures)) (c .before .before .put-text .ensures)
+    let f = after-put-byte2 c in
+    put-then (put-then (after-put-byte f .put-byte .ensures) (f .put-byte2 .ensures)) (c .before .before .put-text .ensures)
 
 pub put-text-spec : {M : Type 1} → statement M
 put-text-spec =

@@ -16,6 +16,13 @@ Inv-loop part at member i₀ i = (nextMember member i part ≡ nextMember member
 abbrev μ-loop : tie.MeasureT-loop
 μ-loop part at member i₀ i = length part - i
 
+-- earlier places of the code
+abbrev turn : tie.Else1 Inv-loop μ-loop → tie.At-loop Inv-loop μ-loop
+turn c = c .before .before .before
+
+abbrev turn-from-then1 : tie.Then1 Inv-loop μ-loop → tie.At-loop Inv-loop μ-loop
+turn-from-then1 c = c .before .before .before
+
 loop-holds : tie.Need-loop-holds Inv-loop μ-loop
 loop-holds c = (refl, omega arith)
 
@@ -24,8 +31,8 @@ shared-slice-read-if1 c = omega arith
 
 returns : tie.Need-returns Inv-loop μ-loop
 returns c =
-    let a = c .before .before .before .before .args in
-    let l = c .before .before .before .loop in
+    let a = turn-from-then1 c .before .args in
+    let l = turn-from-then1 c .loop in
     sym (next-here (a .member) (a .part .now) (l .i) (omega arith) (c .if1 .taken)) ∙ l .inv .0
 
 add-i : tie.Need-add-i Inv-loop μ-loop
@@ -36,8 +43,8 @@ loop-less c = omega arith
 
 loop-again : tie.Need-loop-again Inv-loop μ-loop
 loop-again c =
-    let a = c .before .before .before .before .args in
-    let l = c .before .before .before .loop in
+    let a = turn c .before .args in
+    let l = turn c .loop in
     (next-passed (a .member) (a .part .now) (l .i) (omega arith) (c .if1 .left) ∙ l .inv .0, omega arith)
 
 returns-2 : tie.Need-returns-2 Inv-loop μ-loop

@@ -19,18 +19,31 @@ use Rattle.sheet.specs.Read.{knownChannel}
 use Rattle.sheet_read.specs.Parts.{channelPart}
 use Rattle.sheet_read.proofs.PlaceLaws.{channel-at}
 
+-- earlier places of the code
+abbrev start : tie.After-start → tie.Start
+start c = c .before .before .before .before .before
+
+abbrev after-start : tie.After-parse → tie.After-start
+after-start c = c .before .before .before
+
+abbrev after-parse : tie.After-known-told2 → tie.After-parse
+after-parse c = c .before .before .before
+
+abbrev after-told2 : tie.After-slice-known2 → tie.After-known-told2
+after-told2 c = c .before .before .before .before
+
 -- where the chunk lies
-lies : (c : tie.After-start) → let g = c .start .given .0 in Found (now (c .before .before .before .before .before .args .form)) chan (At (g .0) (g .1 .0))
+lies : (c : tie.After-start) → let g = c .start .given .0 in Found (now (start c .args .form)) chan (At (g .0) (g .1 .0))
 lies c = rw (c .start .given .1) at (found _ _ _ (c .before .before .find .ensures))
 
 -- the part, by what is parsed
 part-is : (c : tie.After-parse) →
-    channelPart (itemsFrom (now (c .before .before .before .before .before .before .before .before .args .form)) 12) ≡ ifThere (λ a. 2 ∷ channelValueOf a ∷ []) (knownChannel (c .parse .result))
+    channelPart (itemsFrom (now (start (after-start c) .args .form)) 12) ≡ ifThere (λ a. 2 ∷ channelValueOf a ∷ []) (knownChannel (c .parse .result))
 part-is c =
-    let s = c .before .before .before in
+    let s = after-start c in
     let g = s .start .given .0 in
     let e : g .0 + g .1 .0 - g .0 ≡ g .1 .0 = omega arith in
-    channel-at (lies s) (s .before .before .before .before .before .pre .0) _ (rw e at (c .parse .ensures))
+    channel-at (lies s) (start s .pre .0) _ (rw e at (c .parse .ensures))
 
 find-requires : tie.Need-find-requires
 find-requires c κs = search needs
@@ -76,7 +89,7 @@ same-length c = search needs
 
 returns-3 : tie.Need-returns-3
 returns-3 c =
-    let p = c .before .before .before .before .before in
+    let p = after-told2 c .before in
     rw (part-is (p .before .before), p .c .given .1) (c .before .before .put-channel .ensures)
 
 pub put-channel-spec : {M : Type 1} → statement M

@@ -24,26 +24,40 @@ Inv-loop form id kind d₀ at o₀ p₀ d o p = Underway d₀ at (envelopePart i
 abbrev μ-loop : tie.MeasureT-loop
 μ-loop form id kind d₀ at o₀ p₀ d o p = length form - p
 
+-- earlier places of the code
+abbrev start : tie.At-loop Inv-loop μ-loop → tie.Start Inv-loop μ-loop
+start c = c .before .before .before
+
+abbrev turn-from-name : tie.After-name Inv-loop μ-loop → tie.At-loop Inv-loop μ-loop
+turn-from-name c = c .before .before .before
+
+abbrev after-name : tie.After-put-group-arg2 Inv-loop μ-loop → tie.After-name Inv-loop μ-loop
+after-name c = c .before .before .before .before
+
+abbrev after-put-group-arg2 : tie.After-slice-known2 Inv-loop μ-loop → tie.After-put-group-arg2 Inv-loop μ-loop
+after-put-group-arg2 c = c .before .before .before
+
 -- the chunk in hand
 whole : (c : tie.After-name Inv-loop μ-loop) →
     let g = c .name .given .0 in
-    Whole (now (c .before .before .before .before .before .before .args .form)) (c .before .before .before .loop .p) (g .0) (g .1 .0) (g .1 .1 .0) (g .1 .1 .1 .0)
+    Whole (now (start (turn-from-name c) .args .form)) (turn-from-name c .loop .p) (g .0) (g .1 .0) (g .1 .1 .0) (g .1 .1 .1 .0)
 whole c = at-chunk _ _ _ _ _ _ (sym (c .before .before .chunk-at .ensures) ∙ c .name .given .1)
 
 -- the envelope of a turn, its payload as the code has it
 abbrev part : tie.Then1 Inv-loop μ-loop → List ℕ
 part c =
     let g = c .before .before .name .given .0 in
-    let a = c .before .before .before .before .before .before .before .before .args in
+    let a = start (turn-from-name (c .before .before)) .args in
     a .kind ∷ tagged 6 6 (take (g .1 .0 + g .1 .1 .0 - g .1 .0) (drop (g .1 .0) (now (a .form))))
 
 turn : (c : tie.Then1 Inv-loop μ-loop) →
-    let a = c .before .before .before .before .before .before .before .before .args in
-    envelopePart (a .id) (a .kind) (itemsFrom (now (a .form)) (c .before .before .before .before .before .loop .p)) ≡ part c ++ envelopePart (a .id) (a .kind) (itemsFrom (now (a .form)) (c .before .before .name .given .0 .1 .1 .1 .0))
+    let a = start (turn-from-name (c .before .before)) .args in
+    let left : ℕ → List ℕ = λ p. envelopePart (a .id) (a .kind) (itemsFrom (now (a .form)) p) in
+    left (turn-from-name (c .before .before) .loop .p) ≡ part c ++ left (c .before .before .name .given .0 .1 .1 .1 .0)
 turn c =
     let g = c .before .before .name .given .0 in
     let e : g .1 .0 + g .1 .1 .0 - g .1 .0 ≡ g .1 .1 .0 = omega arith in
-    rw e (envelope-hit (whole (c .before .before)) _ _ (λ i. c .before .before .before .before .before .before .before .shared-slice-known .given i .fits) (c .if1 .taken))
+    rw e (envelope-hit (whole (c .before .before)) _ _ (λ i. turn-from-name (c .before .before) .before .before .shared-slice-known .given i .fits) (c .if1 .taken))
 
 loop-holds : tie.Need-loop-holds Inv-loop μ-loop
 loop-holds c = (underway-start, refl)
@@ -74,22 +88,22 @@ part-put-group-end c = whole (c .before .before) .inside
 
 put-group-requires : tie.Need-put-group-requires Inv-loop μ-loop
 put-group-requires c κs =
-    (omega arith, omega (arith, underway-room (part (c .before .before)) _ (c .before .before .before .before .before .before .before .loop .inv .0) (turn (c .before .before))))
+    (omega arith, omega (arith, underway-room (part (c .before .before)) _ (turn-from-name (after-name c) .loop .inv .0) (turn (c .before .before))))
 
 loop-less : tie.Need-loop-less Inv-loop μ-loop
-loop-less c = let w = whole (c .before .before .before .before .before .before .before) in omega arith
+loop-less c = let w = whole (after-name (after-put-group-arg2 c)) in omega arith
 
 loop-again : tie.Need-loop-again Inv-loop μ-loop
 loop-again c =
-    let inv = c .before .before .before .before .before .before .before .before .before .before .loop .inv in
-    (underway-step _ (inv .0) (turn (c .before .before .before .before .before)) (c .before .before .put-group .ensures), c .before .before .put-group .kept .1 .1 .1 .1 .0 ∙ inv .1)
+    let inv = turn-from-name (after-name (after-put-group-arg2 c)) .loop .inv in
+    (underway-step _ (inv .0) (turn (after-put-group-arg2 c .before .before)) (c .before .before .put-group .ensures), c .before .before .put-group .kept .1 .1 .1 .1 .0 ∙ inv .1)
 
 loop-less-2 : tie.Need-loop-less-2 Inv-loop μ-loop
 loop-less-2 c = let w = whole (c .before .before) in omega arith
 
 loop-again-2 : tie.Need-loop-again-2 Inv-loop μ-loop
 loop-again-2 c =
-    let inv = c .before .before .before .before .before .loop .inv in
+    let inv = turn-from-name (c .before .before) .loop .inv in
     (rw (← envelope-miss (whole (c .before .before)) _ _ (c .if1 .left)) (inv .0), inv .1)
 
 pub put-envelopes-spec : {M : Type 1} → statement M

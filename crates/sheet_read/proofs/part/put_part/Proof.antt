@@ -12,12 +12,19 @@ use Rattle.form.specs.declared.place.Place.the-variants.{At}
 use Rattle.form.proofs.FindLaws.{Found, found}
 use Rattle.sheet_read.proofs.PlaceLaws.{least-size, record-at}
 
+-- earlier places of the code
+abbrev start : tie.After-start → tie.Start
+start c = c .before .before .before .before .before
+
+abbrev after-start : tie.After-slice-known2 → tie.After-start
+after-start c = c .before .before .before .before .before .before
+
 -- where the chunk lies
-lies : (c : tie.After-start) → let g = c .start .given .0 in let a = c .before .before .before .before .before .args in Found (now (a .form)) (a .id) (At (g .0) (g .1 .0))
+lies : (c : tie.After-start) → let g = c .start .given .0 in let a = start c .args in Found (now (a .form)) (a .id) (At (g .0) (g .1 .0))
 lies c = rw (c .start .given .1) at (found _ _ _ (c .before .before .find .ensures))
 
-enough : (c : tie.After-start) → c .before .before .before .before .before .args .n ≤ c .start .given .0 .1 .0
-enough c = let pre = c .before .before .before .before .before .pre in omega (arith, least-size (lies c) (pre .0), pre .1)
+enough : (c : tie.After-start) → start c .args .n ≤ c .start .given .0 .1 .0
+enough c = let pre = start c .pre in omega (arith, least-size (lies c) (pre .0), pre .1)
 
 find-requires : tie.Need-find-requires
 find-requires c κs = search needs
@@ -51,9 +58,9 @@ same-length c = search needs
 
 returns-2 : tie.Need-returns-2
 returns-2 c =
-    let s = c .before .before .before .before .before .before in
+    let s = after-start c in
     let g = s .start .given .0 in
-    let n = s .before .before .before .before .before .args .n in
+    let n = start s .args .n in
     let e : g .0 + n - g .0 ≡ n = omega arith in
     rw (record-at (lies s) _ n (enough s)) (rw e at (c .before .before .put-record .ensures))
 

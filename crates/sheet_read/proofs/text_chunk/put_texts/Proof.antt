@@ -28,21 +28,34 @@ Inv-loop form d₀ at o₀ p₀ d o p = Underway d₀ at (textPart (itemsFrom fo
 abbrev μ-loop : tie.MeasureT-loop
 μ-loop form d₀ at o₀ p₀ d o p = length form - p
 
+-- earlier places of the code
+abbrev start : tie.At-loop Inv-loop μ-loop → tie.Start Inv-loop μ-loop
+start c = c .before .before .before
+
+abbrev turn-from-id : tie.After-id Inv-loop μ-loop → tie.At-loop Inv-loop μ-loop
+turn-from-id c = c .before .before .before
+
+abbrev after-id : tie.After-put-text-arg Inv-loop μ-loop → tie.After-id Inv-loop μ-loop
+after-id c = c .before .before .before
+
+abbrev after-put-text-arg : tie.After-slice-known2 Inv-loop μ-loop → tie.After-put-text-arg Inv-loop μ-loop
+after-put-text-arg c = c .before .before .before .before
+
 -- the chunk in hand
 whole : (c : tie.After-id Inv-loop μ-loop) →
     let g = c .id .given .0 in
-    Whole (now (c .before .before .before .before .before .before .args .form)) (c .before .before .before .loop .p) (g .0) (g .1 .0) (g .1 .1 .0) (g .1 .1 .1 .0)
+    Whole (now (start (turn-from-id c) .args .form)) (turn-from-id c .loop .p) (g .0) (g .1 .0) (g .1 .1 .0) (g .1 .1 .1 .0)
 whole c = at-chunk _ _ _ _ _ _ (sym (c .before .before .chunk-at .ensures) ∙ c .id .given .1)
 
 -- the text of a turn, its payload as the code has it
 abbrev part : tie.After-text-key Inv-loop μ-loop → List ℕ
 part c =
     let g = c .before .before .id .given .0 in
-    each flatText (textOf (c .text-key .result) (clean (take (g .1 .0 + g .1 .1 .0 - g .1 .0) (drop (g .1 .0) (now (c .before .before .before .before .before .before .before .before .args .form))))))
+    each flatText (textOf (c .text-key .result) (clean (take (g .1 .0 + g .1 .1 .0 - g .1 .0) (drop (g .1 .0) (now (start (turn-from-id (c .before .before)) .args .form))))))
 
 turn : (c : tie.After-text-key Inv-loop μ-loop) →
-    let f = now (c .before .before .before .before .before .before .before .before .args .form) in
-    textPart (itemsFrom f (c .before .before .before .before .before .loop .p)) ≡ part c ++ textPart (itemsFrom f (c .before .before .id .given .0 .1 .1 .1 .0))
+    let f = now (start (turn-from-id (c .before .before)) .args .form) in
+    textPart (itemsFrom f (turn-from-id (c .before .before) .loop .p)) ≡ part c ++ textPart (itemsFrom f (c .before .before .id .given .0 .1 .1 .1 .0))
 turn c =
     let g = c .before .before .id .given .0 in
     let e : g .1 .0 + g .1 .1 .0 - g .1 .0 ≡ g .1 .1 .0 = omega arith in
@@ -81,8 +94,8 @@ part-put-text-end c = whole (c .before .before) .inside
 put-text-requires : tie.Need-put-text-requires Inv-loop μ-loop
 put-text-requires c κs =
     let k = c .before .before in
-    let l = k .before .before .before .before .before in
-    let s = l .before .before .before in
+    let l = turn-from-id (k .before .before) in
+    let s = start l in
     let w = whole (k .before .before) in
     let g = k .before .before .id .given .0 in (
       omega (arith, length-take (g .1 .0 + g .1 .1 .0 - g .1 .0) (drop (g .1 .0) (now (s .args .form))), w .inside, s .pre .0),
@@ -90,12 +103,12 @@ put-text-requires c κs =
     )
 
 loop-less : tie.Need-loop-less Inv-loop μ-loop
-loop-less c = let w = whole (c .before .before .before .before .before .before .before) in omega arith
+loop-less c = let w = whole (after-id (after-put-text-arg c)) in omega arith
 
 loop-again : tie.Need-loop-again Inv-loop μ-loop
 loop-again c =
-    let inv = c .before .before .before .before .before .before .before .before .before .before .loop .inv in
-    (underway-step _ (inv .0) (turn (c .before .before .before .before .before)) (c .before .before .put-text .ensures), c .before .before .put-text .kept .1 .1 .0 ∙ inv .1)
+    let inv = turn-from-id (after-id (after-put-text-arg c)) .loop .inv in
+    (underway-step _ (inv .0) (turn (after-put-text-arg c .before)) (c .before .before .put-text .ensures), c .before .before .put-text .kept .1 .1 .0 ∙ inv .1)
 
 pub put-texts-spec : {M : Type 1} → statement M
 put-texts-spec =

@@ -16,12 +16,16 @@ use Rattle.voice_read.proofs.ReadLaws.{items-bad, items-headless, items
 use Rattle.voice_read.proofs.chunks.form_lengths.Statement.{statement}
 use Rattle.voice_read.proofs.chunks.form_lengths.Tie as tie
 
+-- earlier places of the code
+abbrev start : tie.Else1 → tie.Start
+start c = c .before .before .before
+
 -- no chunk is bad
-sound : (c : tie.Else1) → firstBad (itemsFrom (now (c .before .before .before .args .form)) 12) ≡ 0
+sound : (c : tie.Else1) → firstBad (itemsFrom (now (start c .args .form)) 12) ≡ 0
 sound c = sym (c .before .first-bad .ensures) ∙ c .if1 .left
 
 -- there is a VHDR
-header : (c : tie.Else2) → isSome (firstOf vhdr (itemsFrom (now (c .before .before .before .before .before .args .form)) 12)) ≡ true
+header : (c : tie.Else2) → isSome (firstOf vhdr (itemsFrom (now (start (c .before .before) .args .form)) 12)) ≡ true
 header c = not-false _ (sym (c .before .is-missing .ensures) ∙ c .if2 .left)
 
 first-bad-requires : tie.Need-first-bad-requires
@@ -49,7 +53,7 @@ returns-3 c =
 body-lengths-requires : tie.Need-body-lengths-requires
 body-lengths-requires c κs =
     let e = c .before .before in
-    record { sound = sound (e .before .before); header = header e; short = e .before .before .before .before .before .pre }
+    record { sound = sound (e .before .before); header = header e; short = start (e .before .before) .pre }
 
 returns-4 : tie.Need-returns-4
 returns-4 c =

@@ -15,8 +15,9 @@ use Rattle.voice_read.proofs.chunks.write_outputs.Statement.{statement}
 use Rattle.voice_read.proofs.chunks.write_outputs.Tie as tie
 
 -- the sides, by what was read of the FORM
-sides-are : (c : tie.After-body-of) → let f = now (c .before .before .before .before .before .before .before .before .before .args .form) in
-    bodySides (c .before .before .header-of .result) (c .before .is-stereo .result) (now (c .body-of .result)) ≡ bodySides (formVoice (itemsFrom f 12) .header) (isStereo (formVoice (itemsFrom f 12) .channel)) (bodyOf (firstOf body (itemsFrom f 12)))
+sides-are : (c : tie.After-body-of) → let items = itemsFrom (now (c .before .before .before .before .before .before .before .before .before .args .form)) 12 in
+    bodySides (c .before .before .header-of .result) (c .before .is-stereo .result) (now (c .body-of .result))
+    ≡ bodySides (formVoice items .header) (isStereo (formVoice items .channel)) (bodyOf (firstOf body items))
 sides-are c = rw (c .before .before .header-of .ensures, c .before .is-stereo .ensures, c .body-of .ensures)
 
 put-sheet-requires : tie.Need-put-sheet-requires

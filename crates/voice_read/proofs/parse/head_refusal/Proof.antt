@@ -9,8 +9,12 @@ use Rattle.voice_read.proofs.ReadLaws.{head-short, head-other, head-typ
 use Rattle.voice_read.proofs.parse.head_refusal.Statement.{statement}
 use Rattle.voice_read.proofs.parse.head_refusal.Tie as tie
 
+-- earlier places of the code
+abbrev start : tie.After-read32 → tie.Start
+start c = c .before .before .before
+
 -- it begins with FORM
-is-form : (c : tie.Else2) → bigEndian 4 (now (c .before .before .before .before .args .file)) ≡ form
+is-form : (c : tie.Else2) → bigEndian 4 (now (start (c .before) .args .file)) ≡ form
 is-form c = sym (c .before .read32 .ensures) ∙ c .if2 .left
 
 returns : tie.Need-returns
@@ -22,7 +26,7 @@ read32-requires c κs = search needs
 returns-2 : tie.Need-returns-2
 returns-2 c =
     let d = c .before in
-    sym (head-other (now (d .before .before .before .args .file)) (d .before .if1 .left) (λ e. c .if2 .taken (d .read32 .ensures ∙ e)))
+    sym (head-other (now (start d .args .file)) (d .before .if1 .left) (λ e. c .if2 .taken (d .read32 .ensures ∙ e)))
 
 read32-requires-2 : tie.Need-read32-requires-2
 read32-requires-2 c κs = search needs

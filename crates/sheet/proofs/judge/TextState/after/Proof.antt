@@ -6,6 +6,13 @@ use Rattle.sheet.proofs.judge.TextState.after.Statement.{statement}
 use Rattle.sheet.proofs.judge.TextState.after.Tie as tie
 use Rattle.sheet.specs.TextState.{textsAfter}
 
+-- earlier places of the code
+abbrev then2 : tie.After-between → tie.Then2
+then2 c = c .before .before .before
+
+abbrev then2-from-between2 : tie.After-between2 → tie.Then2
+then2-from-between2 c = c .before .before .before
+
 feed-requires : tie.Need-feed-requires
 feed-requires c κs = search needs
 
@@ -21,14 +28,14 @@ between-requires c κs = search needs
 
 returns-2 : tie.Need-returns-2
 unfolding textsAfter
-returns-2 c = rw (c .before .before .before .if2 .taken, c .between .ensures, ← c .before .before .is-between .ensures, c .before .if3 .taken)
+returns-2 c = rw (then2 c .if2 .taken, c .between .ensures, ← c .before .before .is-between .ensures, c .before .if3 .taken)
 
 between-requires-2 : tie.Need-between-requires-2
 between-requires-2 c κs = search needs
 
 returns-3 : tie.Need-returns-3
 unfolding textsAfter
-returns-3 c = rw (c .before .before .before .if2 .taken, c .between2 .ensures, ← c .before .before .is-between .ensures, c .before .if3 .left)
+returns-3 c = rw (then2-from-between2 c .if2 .taken, c .between2 .ensures, ← c .before .before .is-between .ensures, c .before .if3 .left)
 
 returns-4 : tie.Need-returns-4
 unfolding textsAfter
