@@ -112,7 +112,9 @@ module _ {A : Type 0} {F : A → Type 0} {w : A → List ℕ} {r : List ℕ → 
     fits = λ g h. f .fits (g .body) (h .body);
   }
 
-  pub gathered-form : unknownKind k ≡ false → valueWrong k 0 ≡ false → bodyLength k ≡ 0 → Form F (Correct (member k)) (Given (member k)) w r → Form (All F) (OfGroup Correct k) (OfGroup Given k) (λ l. gathered (map w l)) (λ g. map r (g .members))
+  pub gathered-form :
+      unknownKind k ≡ false → valueWrong k 0 ≡ false → bodyLength k ≡ 0 → Form F (Correct (member k)) (Given (member k)) w r →
+      Form (All F) (OfGroup Correct k) (OfGroup Given k) (λ l. gathered (map w l)) (λ g. map r (g .members))
   gathered-form known value e f =
       let f′ = many f in
       record {

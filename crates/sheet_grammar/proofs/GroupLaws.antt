@@ -74,7 +74,9 @@ module _ (rest : List RecordItem) where
       let theirs : eqb (member k) k ≡ false = ne-eqb (member k) k (apart k k o o) in
       let members : leading (member k) (map (entry (member k)) (g .members) ++ later) ≡ g .members =
       leading-members later (member k) (g .members) ∙ rw (leading-section (member k) k gs mine h) (append-nil (g .members)) in
-      rw (append-assoc, groups-own k (g .body) (map (entry (member k)) (g .members) ++ later) (member k), members, groups-members later k (member k) (member k) (g .members) theirs, groups-section-own k gs o h)
+      let own = groups-own k (g .body) (map (entry (member k)) (g .members) ++ later) (member k) in
+      let past = groups-members later k (member k) (member k) (g .members) theirs in
+      rw (append-assoc, own, members, past, groups-section-own k gs o h)
 
 -- ---- all groups
 

@@ -20,7 +20,8 @@ use Rattle.sheet.specs.Read.{Group}
 use Rattle.sheet_grammar.proofs.ListLaws.{all-append, all-map, each-append, each-map}
 use Rattle.sheet_grammar.proofs.RecordLaws.{OfItem, bytesOf}
 use Rattle.sheet_grammar.proofs.OrderLaws.{Correct, Ordered, end, onward}
-use Rattle.sheet_grammar.proofs.KindLaws.{Opener, all-open, known-kind, opens-group, known-from, member, followers, openers, latestOf, latest-le, earliest-le, placed, member-belongs, member-placed}
+use Rattle.sheet_grammar.proofs.KindLaws.{Opener, all-open, known-kind, opens-group, known-from, member, followers, openers}
+use Rattle.sheet_grammar.proofs.KindLaws.{latestOf, latest-le, earliest-le, placed, member-belongs, member-placed}
 
 -- the records of a group of kind k
 abbrev pub groupItems : ℕ → Group → List RecordItem

@@ -96,7 +96,10 @@ pub releases-form : EnvelopesForm 5
 unfolding valueWrong
 releases-form = envelopes-form 5 refl refl refl refl (omega arith)
 
-pub sequence-form : Form (IfThere (All SegmentFits)) (Listed Correct 7) (Listed Given 7) (λ o. map (λ l. gathered (map segmentBytes l)) (listed o)) (λ gs. mapOption (λ g. map segmentOf (g .members)) (first gs))
+pub sequence-form :
+    Form (IfThere (All SegmentFits)) (Listed Correct 7) (Listed Given 7)
+    (λ o. map (λ l. gathered (map segmentBytes l)) (listed o))
+    (λ gs. mapOption (λ g. map segmentOf (g .members)) (first gs))
 unfolding valueWrong
 sequence-form = once-form 7 (gathered-form 7 refl refl refl segment-body) (omega arith)
 

@@ -1,4 +1,5 @@
--- The chunks that a sheet's records open, record by record. A record of kind 6, 8 or 11 belongs to the one that opened its group.
+-- What the code's helpers ask and give; no reader of the meanings needs it. The chunks that a sheet's records open, record by record:
+-- a record of kind 6, 8 or 11 belongs to the one that opened its group.
 use Prim.Native.Nat.{ℕ}
 use lib.Dec.{eqb}
 use lib.ListN.{getD}

@@ -17,7 +17,8 @@ use Rattle.sheet.specs.Read.{readSheet}
 use Rattle.sheet.specs.declared.judge.Judged.{Judged}
 use Rattle.sheet.specs.declared.judge.Judged.the-variants.{Sound, Refused}
 use Rattle.body_read.specs.Sides.{Sides}
-use Rattle.voice_write.specs.Answers.{lengthOf, Room}
+use Rattle.voice_write.specs.Answers.{lengthOf}
+use Rattle.voice_write.specs.Helpers.{Room}
 use Rattle.voice_write.specs.WriteVoice.{contents, fileOf, writeVoice, writeSheet}
 use Rattle.voice_write.proofs.WriteLaws.{accepted, accepted-as, file-length, left-bound, flat-within, right-within}
 

@@ -1,7 +1,6 @@
 -- What a file that is to be written makes of the answers.
-use Prim.Native.Nat.{ℕ, _≤_}
+use Prim.Native.Nat.{ℕ}
 use mathlib.Core.List.{List}
-use mathlib.Core.Path.{_≡_}
 use lib.ListN.{length}
 use Rattle.refusal.specs.Outcome.{Outcome, gives, refuses}
 use Rattle.refusal.specs.declared.Output.{Output}
@@ -11,8 +10,3 @@ use Rattle.refusal.specs.declared.Output.the-variants.{Length, Refused}
 abbrev pub lengthOf : Outcome (List ℕ) → Output
 lengthOf (gives bytes) = Length (length bytes)
 lengthOf (refuses number) = Refused number
-
--- it is a file of n bytes, which fits into so many places
-abbrev pub Room : Outcome (List ℕ) → ℕ → ℕ → Type 0
-Room (gives bytes) n places = (n ≡ length bytes) × (n ≤ places)
-Room (refuses number) n places = ⊥

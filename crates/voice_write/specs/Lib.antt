@@ -1,3 +1,4 @@
 -- The meaning of writing a file.
 pub mod WriteVoice
 pub mod Answers
+pub mod Helpers

@@ -14,12 +14,13 @@ ghost use Rattle.header.specs.Compression.{knownCompression};
 ghost use Rattle.header.specs.declared.compression.KnownCompression.the-variants.{Known};
 ghost use Rattle.refusal.specs.Outcome.{answer, bufferAfter};
 ghost use Rattle.sheet.specs.Read.{readSheet};
-ghost use Rattle.voice_write.specs.Answers.{Room};
+ghost use Rattle.voice_write.specs.Helpers.{Room};
 ghost use Rattle.voice_write.specs.WriteVoice.{writeSheet};
 
 // The whole file, n bytes, for a compression that is known.
 fn write_known(sheet: &[u8], c: Compression, left: &[i8], right: &[i8], n: usize, file: &mut [u8])
-    requires { ⌜ (knownCompression (readSheet (now sheet) .header .«compression_byte») ≡ Known c) × Room (writeSheet (now sheet) (record { left = now left; right = now right })) n (length (now file)) ⌝ }
+    requires { ⌜ (knownCompression (readSheet (now sheet) .header .«compression_byte») ≡ Known c)
+        × Room (writeSheet (now sheet) (record { left = now left; right = now right })) n (length (now file)) ⌝ }
     ensures { λ _. ⌜ now (file .exit) ≡ bufferAfter (writeSheet (now (sheet .entry)) (record { left = now (left .entry); right = now (right .entry) })) (now (file .entry)) ⌝ }
 {
     let held = (n - 8) as u32;

@@ -8,6 +8,9 @@ use Rattle.sheet_write.proofs.BoundLaws.{sheet-bound}
 use Rattle.sheet_write.proofs.chunks_length.Statement.{statement}
 use Rattle.sheet_write.proofs.chunks_length.Tie as tie
 
+abbrev entered : tie.After-nowhere2 → tie.After-shared-slice-known
+entered c = c .before .before .before
+
 slice-aggregate-put-chunks : tie.Need-slice-aggregate-put-chunks
 slice-aggregate-put-chunks c = search needs
 
@@ -16,7 +19,7 @@ put-chunks-requires c κs = search needs
 
 returns : tie.Need-returns
 returns c =
-    let k = c .before .before .before in
+    let k = entered c in
     let s = now (k .before .args .sheet) in
     let bytes : Bytes s = λ i. k .shared-slice-known .given i .fits in
     let end = c .before .put-chunks .ensures .end in

@@ -11,6 +11,9 @@ use Rattle.sheet_write.proofs.VoiceChunkLaws.{chunks-voice}
 use Rattle.sheet_write.proofs.put_chunks.Statement.{statement}
 use Rattle.sheet_write.proofs.put_chunks.Tie as tie
 
+abbrev entered : tie.After-slice-known2 → tie.After-shared-slice-known
+entered c = c .before .before .before .before .before
+
 -- the sheet's bytes
 bytes : (c : tie.After-shared-slice-known) → Bytes (now (c .before .args .sheet))
 bytes c i = c .shared-slice-known .given i .fits
@@ -27,7 +30,7 @@ same-length c = search needs
 
 returns : tie.Need-returns
 returns c =
-    let k = c .before .before .before .before .before in
+    let k = entered c in
     rw (← chunks-voice _ (bytes k) (k .before .pre .0)) (c .before .before .put-records .ensures)
 
 pub put-chunks-spec : {M : Type 1} → statement M

@@ -22,10 +22,19 @@ Inv-loop sheet d₀ at p₀ o₀ d p o = Underway d₀ at (recordChunks (records
 abbrev μ-loop : tie.MeasureT-loop
 μ-loop sheet d₀ at p₀ o₀ d p o = length sheet - p
 
+abbrev entry : tie.At-loop Inv-loop μ-loop → tie.Start Inv-loop μ-loop
+entry l = l .before .before .before
+
+abbrev at-turn : tie.After-kind Inv-loop μ-loop → tie.At-loop Inv-loop μ-loop
+at-turn c = c .before .before .before
+
+abbrev read : tie.After-slice-known2 Inv-loop μ-loop → tie.After-kind Inv-loop μ-loop
+read c = c .before .before .before .before .before
+
 -- the record in hand
 whole : (c : tie.After-kind Inv-loop μ-loop) →
     let g = c .kind .given .0 in
-    Whole (now (c .before .before .before .before .before .before .args .sheet)) (c .before .before .before .loop .p) (g .0) (g .1 .0) (g .1 .1 .0)
+    Whole (now (entry (at-turn c) .args .sheet)) (at-turn c .loop .p) (g .0) (g .1 .0) (g .1 .1 .0)
 whole c = is-record _ _ _ _ _ (sym (c .before .before .record-at .ensures) ∙ c .kind .given .1)
 
 one-long : {s : List ℕ} {at k start past : ℕ} → Whole s at k start past → bodyLength k ≡ 1 → past ≡ start + 1
@@ -34,17 +43,17 @@ one-long w e = omega (arith, w .sized, w .ordered)
 -- its chunk
 abbrev own : (c : tie.After-kind Inv-loop μ-loop) → List ℕ
 own c =
-    let s = now (c .before .before .before .before .before .before .args .sheet) in
+    let s = now (entry (at-turn c) .args .sheet) in
     let g = c .kind .given .0 in
     recordChunk (g .0) (take (g .1 .1 .0 - g .1 .0) (drop (g .1 .0) s)) (records (drop (g .1 .1 .0) s))
 
 -- those of the records after it
 abbrev later : (c : tie.After-kind Inv-loop μ-loop) → List ℕ
-later c = recordChunks (records (drop (c .kind .given .0 .1 .1 .0) (now (c .before .before .before .before .before .before .args .sheet))))
+later c = recordChunks (records (drop (c .kind .given .0 .1 .1 .0) (now (entry (at-turn c) .args .sheet))))
 
 turn : (c : tie.After-kind Inv-loop μ-loop) →
-    let l = c .before .before .before in
-    recordChunks (records (drop (l .loop .p) (now (l .before .before .before .args .sheet)))) ≡ own c ++ later c
+    let l = at-turn c in
+    recordChunks (records (drop (l .loop .p) (now (entry l .args .sheet)))) ≡ own c ++ later c
 turn c = chunks-more (whole c)
 
 loop-holds : tie.Need-loop-holds Inv-loop μ-loop
@@ -62,22 +71,22 @@ same-length c = c .before .before .loop .inv .1
 returns : tie.Need-returns Inv-loop μ-loop
 returns c =
     let l = c .before .before in
-    underway-done (l .loop .inv .0) (chunks-stopped (stopped (now (l .before .before .before .args .sheet)) (l .loop .p) _ (c .before .record-at .ensures) (c .match .keys2)))
+    underway-done (l .loop .inv .0) (chunks-stopped (stopped (now (entry l .args .sheet)) (l .loop .p) _ (c .before .record-at .ensures) (c .match .keys2)))
 
 put-record-chunk-requires : tie.Need-put-record-chunk-requires Inv-loop μ-loop
 put-record-chunk-requires c κs =
     let k = c .before .before in
     let w = whole k in
-    let place = underway-room (own k) (later k) (k .before .before .before .loop .inv .0) (turn k) in
+    let place = underway-room (own k) (later k) (at-turn k .loop .inv .0) (turn k) in
     (w .ordered, w .inside, omega arith, omega (arith, place), λ e. one-long w (ap bodyLength e), λ e. one-long w (ap bodyLength e))
 
 loop-less : tie.Need-loop-less Inv-loop μ-loop
-loop-less c = let w = whole (c .before .before .before .before .before) in omega arith
+loop-less c = let w = whole (read c) in omega arith
 
 loop-again : tie.Need-loop-again Inv-loop μ-loop
 loop-again c =
-    let k = c .before .before .before .before .before in
-    let inv = k .before .before .before .loop .inv in
+    let k = read c in
+    let inv = at-turn k .loop .inv in
     let put = c .before .before .put-record-chunk in
     (underway-step {xs = own k} (later k) (inv .0) (turn k) (put .ensures), put .kept .1 .1 .1 .1 .0 ∙ inv .1)
 

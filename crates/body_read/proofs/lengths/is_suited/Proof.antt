@@ -63,7 +63,7 @@ returns-4 c =
     let g = f .before in
     let a = entry (g .before) .args in
     let large = total-not (a .h) _ (sym (f .total-samples-per-channel .ensures) ∙ c .enum-told .given .1) in
-    let apart : a .left ≡ totalSamples (a .h) → ⊥ = λ e. omega (arith, large .0, g .before .before .before .fits .left) in
+    let apart : a .left ≡ totalSamples (a .h) → ⊥ = λ e. omega (arith, large .0, entry (g .before) .fits .left) in
     sym (suit-is (a .h) (a .stereo) (a .left) (a .right) (right-is (g .before .before)) ∙ rw (ne-eqb (hi (a .h)) 0 (some g), ne-eqb (a .left) (totalSamples (a .h)) apart))
 
 returns-5 : tie.Need-returns-5

@@ -20,10 +20,13 @@ Inv-loop sheet from member p₀ m₀ p m = (m + length (leading member (records 
 abbrev μ-loop : tie.MeasureT-loop
 μ-loop sheet from member p₀ m₀ p m = length sheet - p
 
+abbrev at-turn : tie.After-kind Inv-loop μ-loop → tie.At-loop Inv-loop μ-loop
+at-turn c = c .before .before .before
+
 -- the record in hand
 whole : (c : tie.After-kind Inv-loop μ-loop) →
     let g = c .kind .given .0 in
-    Whole (now (c .before .before .before .before .before .args .sheet)) (c .before .before .before .loop .p) (g .0) (g .1 .0) (g .1 .1 .0)
+    Whole (now (at-turn c .before .before .args .sheet)) (at-turn c .loop .p) (g .0) (g .1 .0) (g .1 .1 .0)
 whole c = is-record _ _ _ _ _ (sym (c .before .before .record-at .ensures) ∙ c .kind .given .1)
 
 loop-holds : tie.Need-loop-holds Inv-loop μ-loop
@@ -43,10 +46,10 @@ returns c =
     omega (arith, l .loop .inv .0, ap length (none-stopped (a .member) end))
 
 returns-2 : tie.Need-returns-2 Inv-loop μ-loop
-returns-2 c = omega (arith, c .before .before .before .before .before .loop .inv .0, ap length (member-none _ (whole (c .before .before)) (c .if1 .taken)))
+returns-2 c = omega (arith, at-turn (c .before .before) .loop .inv .0, ap length (member-none _ (whole (c .before .before)) (c .if1 .taken)))
 
 add-m : tie.Need-add-m Inv-loop μ-loop
-add-m c = let w = whole (c .before .before) in omega (arith, c .before .before .before .before .before .loop .inv .1)
+add-m c = let w = whole (c .before .before) in omega (arith, at-turn (c .before .before) .loop .inv .1)
 
 loop-less : tie.Need-loop-less Inv-loop μ-loop
 loop-less c = let w = whole (c .before .before) in omega arith
@@ -54,7 +57,7 @@ loop-less c = let w = whole (c .before .before) in omega arith
 loop-again : tie.Need-loop-again Inv-loop μ-loop
 loop-again c =
     let w = whole (c .before .before) in
-    let inv = c .before .before .before .before .before .loop .inv in
+    let inv = at-turn (c .before .before) .loop .inv in
     (omega (arith, inv .0, ap length (member-more _ w (c .if1 .left))), omega (arith, inv .1))
 
 pub member-count-spec : {M : Type 1} → statement M

@@ -16,17 +16,32 @@ use Rattle.sheet_write.specs.RecordChunks.{membersAfter}
 use Rattle.sheet_write.proofs.group.put_group.Statement.{statement}
 use Rattle.sheet_write.proofs.group.put_group.Tie as tie
 
+abbrev entry : tie.After-slice-known → tie.Start
+entry c = c .before .before
+
+abbrev counted : tie.After-put-head → tie.After-member-count
+counted c = c .before .before
+
+abbrev head : tie.After-put-members-arg → tie.After-put-head
+head c = c .before .before .before
+
+abbrev members-put : tie.After-put-zeros-arg → tie.After-put-members
+members-put c = c .before .before .before
+
+abbrev zeros : tie.After-slice-known4 → tie.After-put-zeros-arg
+zeros c = c .before .before .before
+
 -- the members
 abbrev members : (c : tie.After-member-count) → List ℕ
-members c = let a = c .before .before .before .args in membersAfter (a .member) (records (drop (a .from) (now (a .sheet))))
+members c = let a = entry (c .before) .args in membersAfter (a .member) (records (drop (a .from) (now (a .sheet))))
 
 -- their length, and that it is small
-sized : (c : tie.After-member-count) → (c .member-count .result * c .before .before .before .args .n ≡ length (members c)) × (length (members c) < 2 ^ 34)
+sized : (c : tie.After-member-count) → (c .member-count .result * entry (c .before) .args .n ≡ length (members c)) × (length (members c) < 2 ^ 34)
 sized c =
-    let s = c .before .before .before in
+    let s = entry (c .before) in
     let l = drop (s .args .from) (now (s .args .sheet)) in
     let h = members-sized (s .args .member) l in
-    (rw (c .member-count .ensures, s .pre .0) (sym (h .total)), omega (arith, h .inside, length-drop (s .args .from) (now (s .args .sheet))))
+    (rw (members, entry, c .member-count .ensures, s .pre .0) (sym (h .total)), omega (arith, h .inside, length-drop (s .args .from) (now (s .args .sheet))))
 
 member-count-requires : tie.Need-member-count-requires
 member-count-requires c κs = search needs
@@ -41,24 +56,24 @@ put-head-requires : tie.Need-put-head-requires
 put-head-requires c κs = search needs
 
 put-members-requires : tie.Need-put-members-requires
-put-members-requires c κs = omega (arith, sized (c .before .before .before .before .before) .1, head-end _ _ (c .before .before .before .put-head .ensures))
+put-members-requires c κs = omega (arith, sized (counted (head c)) .1, head-end _ _ (head c .put-head .ensures))
 
 add-after : tie.Need-add-after
 add-after c = search needs
 
 put-zeros-requires : tie.Need-put-zeros-requires
 put-zeros-requires c κs =
-    let h = c .before .before .before .before .before .before in
-    (omega arith, omega (arith, sized (h .before .before .before) .1, head-end _ _ (h .before .put-head .ensures), c .before .before .before .put-members .ensures .end))
+    let h = head (members-put c .before) in
+    (omega arith, omega (arith, sized (counted h) .1, head-end _ _ (h .put-head .ensures), members-put c .put-members .ensures .end))
 
 same-length : tie.Need-same-length
 same-length c = search needs
 
 returns : tie.Need-returns
 returns c =
-    let m = c .before .before .before .before .before .before in
-    let h = m .before .before .before .before in
-    let n = h .before .before in
+    let m = members-put (zeros c) in
+    let h = head (m .before) in
+    let n = counted h in
     chunk-zeros _ _ _ (members n) (omega (arith, sized n .0)) (h .put-head .ensures) (m .put-members .ensures) (c .before .before .put-zeros .ensures)
 
 pub put-group-spec : {M : Type 1} → statement M

@@ -12,6 +12,16 @@ use borrow.Author.Needs.{needs}
 use Rattle.voice_write.proofs.encode.encode_voice.Statement.{statement}
 use Rattle.voice_write.proofs.encode.encode_voice.Tie as tie
 
+abbrev entry : tie.After-file-length → tie.Start
+entry c = c .before .before .before
+
+abbrev counted : tie.After-write-file-arg → tie.After-n
+counted c = c .before .before .before
+
+-- where the buffer is long enough
+abbrev fitting : tie.After-slice-known2 → tie.Else1
+fitting c = c .before .before .before .before
+
 file-length-requires : tie.Need-file-length-requires
 file-length-requires c κs = search needs
 
@@ -23,29 +33,29 @@ enum-known-n c = search needs
 
 -- there is a file of that length
 measured : (c : tie.After-n) →
-    let a = c .before .before .before .before .before .args in
+    let a = entry (c .before .before) .args in
     Gives (writeSheet (now (a .sheet)) (sidesOf (now (a .left)) (now (a .right)))) (c .n .given .0 .0)
 measured c =
-    let a = c .before .before .before .before .before .args in
+    let a = entry (c .before .before) .args in
     length-gives (writeSheet (now (a .sheet)) (sidesOf (now (a .left)) (now (a .right)))) (c .n .given .0 .0) (sym (c .before .before .file-length .ensures) ∙ c .n .given .1)
 
 returns : tie.Need-returns
 returns c =
     let e = c .before .before in
-    let a = e .before .before .before .before .before .args in
+    let a = entry (e .before .before) .args in
     let g = measured e in
     outcome-short (writeSheet (now (a .sheet)) (sidesOf (now (a .left)) (now (a .right)))) (now (a .file)) (g .file) (g .is) (e .n .given .0 .0) (g .long) (c .if1 .taken)
 
 write-file-requires : tie.Need-write-file-requires
 write-file-requires c κs =
-    let e = c .before .before .before in
-    let a = e .before .before .before .before .before .args in
+    let e = counted c in
+    let a = entry (e .before .before) .args in
     room-for (writeSheet (now (a .sheet)) (sidesOf (now (a .left)) (now (a .right)))) (e .n .given .0 .0) (length (now (a .file))) (measured e) (c .before .if1 .left)
 
 returns-2 : tie.Need-returns-2
 returns-2 c =
     let e = c .before in
-    let a = e .before .before .before .before .before .args in
+    let a = entry (e .before .before) .args in
     let o = writeSheet (now (a .sheet)) (sidesOf (now (a .left)) (now (a .right))) in
     let n = e .number .given .0 .0 in
     outcome-refused o (now (a .file)) n (length-refused o n (sym (e .before .before .file-length .ensures) ∙ e .number .given .1))
@@ -55,10 +65,11 @@ same-length c = search needs
 
 returns-3 : tie.Need-returns-3
 returns-3 c =
-    let e = c .before .before .before .before .before .before in
-    let a = e .before .before .before .before .before .args in
+    let e = fitting c .before .before in
+    let a = entry (e .before .before) .args in
     let g = measured e in
-    let fits = outcome-fits (writeSheet (now (a .sheet)) (sidesOf (now (a .left)) (now (a .right)))) (now (a .file)) (g .file) (g .is) (e .n .given .0 .0) (g .long) (written (g .file) (now (a .file))) (c .before .before .before .before .if1 .left) refl in
+    let file = now (a .file) in
+    let fits = outcome-fits _ file (g .file) (g .is) (e .n .given .0 .0) (g .long) (written (g .file) file) (fitting c .if1 .left) refl in
     (fits .0, c .before .before .write-file .ensures)
 
 pub encode-voice-spec : {M : Type 1} → statement M

@@ -14,6 +14,12 @@ use borrow.Author.Needs.{needs}
 use Rattle.voice_write.proofs.encode.write_file.Statement.{statement}
 use Rattle.voice_write.proofs.encode.write_file.Tie as tie
 
+abbrev entry : tie.After-slice-known → tie.Start
+entry c = c .before .before
+
+abbrev header : tie.After-compression → tie.After-sheet-header
+header c = c .before
+
 sheet-header-requires : tie.Need-sheet-header-requires
 sheet-header-requires c κs =
     let s = c .before .before in
@@ -32,17 +38,20 @@ enum-known-c c = search needs
 write-known-requires : tie.Need-write-known-requires
 write-known-requires c κs =
     let e = c .before .before in
-    (rw (e .before .before .before .sheet-header .ensures) at (sym (e .before .before .compression .ensures) ∙ e .c .given .1), c .before .before .before .before .before .before .before .before .pre)
+    let h = header (e .before .before) in
+    (rw (h .sheet-header .ensures) at (sym (e .before .before .compression .ensures) ∙ e .c .given .1), entry (h .before) .pre)
 
 returns : tie.Need-returns
 returns c =
-    let s = c .before .before .before .before .before .before in
+    let h = header (c .before .before) in
+    let s = entry (h .before) in
     let a = s .args in
     let v = readSheet (now (a .sheet)) in
     let k = sidesOf (now (a .left)) (now (a .right)) in
     let o = writeSheet (now (a .sheet)) k in
     let n = c .enum-told .given .0 .0 in
-    let unknown : knownCompression (v .header .«compression_byte») ≡ Refused n = rw (c .before .before .before .sheet-header .ensures) at (sym (c .before .before .compression .ensures) ∙ c .enum-told .given .1) in
+    let unknown : knownCompression (v .header .«compression_byte») ≡ Refused n =
+    rw (h .sheet-header .ensures) at (sym (c .before .before .compression .ensures) ∙ c .enum-told .given .1) in
     let accepted = room-sound (now (a .sheet)) k (a .n) (length (now (a .file))) (s .pre) in
     outcome-refused o (now (a .file)) n (sheet-sound (now (a .sheet)) k accepted ∙ voice-unknown v k n unknown) .1
 

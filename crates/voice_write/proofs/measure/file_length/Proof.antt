@@ -9,6 +9,9 @@ use borrow.Author.Needs.{needs}
 use Rattle.voice_write.proofs.measure.file_length.Statement.{statement}
 use Rattle.voice_write.proofs.measure.file_length.Tie as tie
 
+abbrev entry : tie.After-judge-sheet → tie.Start
+entry c = c .before .before
+
 judge-sheet-requires : tie.Need-judge-sheet-requires
 judge-sheet-requires c κs = search needs
 
@@ -24,14 +27,14 @@ sound-length-requires c κs = sym (c .before .before .judge-sheet .ensures) ∙ 
 returns : tie.Need-returns
 returns c =
     let e = c .before in
-    let a = e .before .before .before .before .args in
+    let a = entry (e .before .before) .args in
     let n = e .number .given .0 .0 in
     sym (ap lengthOf (sheet-refused (now (a .sheet)) (sidesOf (now (a .left)) (now (a .right))) n (sym (e .before .before .judge-sheet .ensures) ∙ e .number .given .1)))
 
 returns-2 : tie.Need-returns-2
 returns-2 c =
     let e = c .before in
-    let a = e .before .before .before .before .args in
+    let a = entry (e .before .before) .args in
     c .sound-length .ensures ∙ sym (ap lengthOf (sheet-sound (now (a .sheet)) (sidesOf (now (a .left)) (now (a .right))) (sym (e .before .before .judge-sheet .ensures) ∙ e .enum-told .given .1)))
 
 pub file-length-spec : {M : Type 1} → statement M

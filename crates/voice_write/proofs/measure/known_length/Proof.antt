@@ -15,6 +15,15 @@ use borrow.Author.Needs.{needs}
 use Rattle.voice_write.proofs.measure.known_length.Statement.{statement}
 use Rattle.voice_write.proofs.measure.known_length.Tie as tie
 
+abbrev entry : tie.After-sheet-header → tie.Start
+entry c = c .before .before
+
+abbrev header : tie.After-total-samples-per-channel → tie.After-sheet-header
+header c = c .before
+
+abbrev told : tie.After-is-suited → tie.After-enum-told
+told c = c .before .before
+
 sheet-header-requires : tie.Need-sheet-header-requires
 sheet-header-requires c κs = search needs
 
@@ -34,46 +43,48 @@ is-suited-requires : tie.Need-is-suited-requires
 is-suited-requires c κs = search needs
 
 -- the total fits
-small : (c : tie.After-enum-told) → totalSamples (readSheet (now (c .before .before .before .before .before .args .sheet)) .header) < 2 ^ 64
+small : (c : tie.After-enum-told) → totalSamples (readSheet (now (entry (header (c .before .before)) .args .sheet)) .header) < 2 ^ 64
 small c =
-    let a = c .before .before .before .before .before .args in
+    let a = entry (header (c .before .before)) .args in
     let v = readSheet (now (a .sheet)) in
     let n = c .enum-told .given .0 .0 in
-    let summed : total (v .header) ≡ sum.Sum n = rw (c .before .before .before .sheet-header .ensures) at (sym (c .before .before .total-samples-per-channel .ensures) ∙ c .enum-told .given .1) in
+    let summed : total (v .header) ≡ sum.Sum n = rw (header (c .before .before) .sheet-header .ensures) at (sym (c .before .before .total-samples-per-channel .ensures) ∙ c .enum-told .given .1) in
     total-is (v .header) n summed .0
 
 -- what the test says
 tested : (c : tie.After-is-suited) (b : Bool) → c .is-suited .result ≡ b →
-    let a = c .before .before .before .before .before .before .before .args in
+    let a = entry (header (told c .before .before)) .args in
     suited (readSheet (now (a .sheet))) (sidesOf (now (a .left)) (now (a .right))) ≡ b
-tested c b e = rw (c .before .before .before .before .before .sheet-header .ensures, c .before .sheet-stereo .ensures) at (sym (c .is-suited .ensures) ∙ e)
+tested c b e = rw (header (told c .before .before) .sheet-header .ensures, told, c .before .sheet-stereo .ensures) at (sym (c .is-suited .ensures) ∙ e)
 
 suited-length-requires : tie.Need-suited-length-requires
 suited-length-requires c κs =
-    (c .before .before .before .before .before .before .before .before .pre .0, tested (c .before) true (c .if1 .taken))
+    (entry (header (told (c .before) .before .before)) .pre .0, tested (c .before) true (c .if1 .taken))
 
 returns : tie.Need-returns
 returns c =
     let e = c .before .before in
-    let s = e .before .before .before .before .before .before .before in
+    let s = entry (header (told e .before .before)) in
     let a = s .args in
-    rw (voice-suited (readSheet (now (a .sheet))) (sidesOf (now (a .left)) (now (a .right))) (a .c) (s .pre .1) (small (e .before .before)) (tested e true (c .before .if1 .taken))) (c .suited-length .ensures)
+    let v = readSheet (now (a .sheet)) in
+    let k = sidesOf (now (a .left)) (now (a .right)) in
+    rw (voice-suited v k (a .c) (s .pre .1) (small (told e)) (tested e true (c .before .if1 .taken))) (c .suited-length .ensures)
 
 returns-2 : tie.Need-returns-2
 returns-2 c =
     let e = c .before in
-    let s = e .before .before .before .before .before in
+    let s = entry (header (e .before .before)) in
     let a = s .args in
     let v = readSheet (now (a .sheet)) in
     let n = e .number .given .0 .0 in
-    let summed : total (v .header) ≡ sum.Refused n = rw (e .before .before .before .sheet-header .ensures) at (sym (e .before .before .total-samples-per-channel .ensures) ∙ e .number .given .1) in
+    let summed : total (v .header) ≡ sum.Refused n = rw (header (e .before .before) .sheet-header .ensures) at (sym (e .before .before .total-samples-per-channel .ensures) ∙ e .number .given .1) in
     let large = total-not (v .header) n summed in
     ap Refused (sym (large .1)) ∙ sym (ap lengthOf (voice-octaves v (sidesOf (now (a .left)) (now (a .right))) (a .c) (s .pre .1) (large .0)))
 
 returns-3 : tie.Need-returns-3
 returns-3 c =
     let e = c .before in
-    let s = e .before .before .before .before .before .before .before in
+    let s = entry (header (told e .before .before)) in
     let a = s .args in
     sym (ap lengthOf (voice-unsuited (readSheet (now (a .sheet))) (sidesOf (now (a .left)) (now (a .right))) (a .c) (s .pre .1) (small (e .before .before)) (tested e false (c .if1 .left))))
 

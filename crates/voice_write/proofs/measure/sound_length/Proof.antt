@@ -11,6 +11,12 @@ use borrow.Author.Needs.{needs}
 use Rattle.voice_write.proofs.measure.sound_length.Statement.{statement}
 use Rattle.voice_write.proofs.measure.sound_length.Tie as tie
 
+abbrev entry : tie.After-sheet-header → tie.Start
+entry c = c .before .before
+
+abbrev header : tie.After-compression → tie.After-sheet-header
+header c = c .before
+
 sheet-header-requires : tie.Need-sheet-header-requires
 sheet-header-requires c κs = search needs
 
@@ -26,16 +32,17 @@ enum-known-c c = search needs
 known-length-requires : tie.Need-known-length-requires
 known-length-requires c κs =
     let e = c .before in
-    let s = e .before .before .before .before .before in
-    (s .pre, rw (e .before .before .before .sheet-header .ensures) at (sym (e .before .before .compression .ensures) ∙ e .c .given .1))
+    let s = entry (header (e .before .before)) in
+    (s .pre, rw (header (e .before .before) .sheet-header .ensures) at (sym (e .before .before .compression .ensures) ∙ e .c .given .1))
 
 returns : tie.Need-returns
 returns c =
     let e = c .before in
-    let a = e .before .before .before .before .before .args in
+    let a = entry (header (e .before .before)) .args in
     let n = e .number .given .0 .0 in
     let v = readSheet (now (a .sheet)) in
-    let unknown : knownCompression (v .header .«compression_byte») ≡ Refused n = rw (e .before .before .before .sheet-header .ensures) at (sym (e .before .before .compression .ensures) ∙ e .number .given .1) in
+    let unknown : knownCompression (v .header .«compression_byte») ≡ Refused n =
+    rw (header (e .before .before) .sheet-header .ensures) at (sym (e .before .before .compression .ensures) ∙ e .number .given .1) in
     sym (ap lengthOf (voice-unknown v (sidesOf (now (a .left)) (now (a .right))) n unknown))
 
 returns-2 : tie.Need-returns-2

@@ -16,6 +16,12 @@ use borrow.Author.Needs.{needs}
 use Rattle.voice_write.proofs.measure.suited_length.Statement.{statement}
 use Rattle.voice_write.proofs.measure.suited_length.Tie as tie
 
+abbrev entry : tie.Else1 → tie.Start
+entry c = c .before .before
+
+abbrev past-tests : tie.After-sheet-stereo → tie.Else1
+past-tests c = c .before .before .before
+
 returns : tie.Need-returns
 returns c =
     let s = c .before .before in
@@ -27,7 +33,7 @@ returns c =
 
 returns-2 : tie.Need-returns-2
 returns-2 c =
-    let a = c .before .before .before .args in
+    let a = entry (c .before) .args in
     let v = readSheet (now (a .sheet)) in
     let k = sidesOf (now (a .left)) (now (a .right)) in
     sym (ap lengthOf (held-long (contents v (a .c) k) (omega (arith, left-bound v (a .c) k, c .if2 .taken))))
@@ -40,16 +46,17 @@ sheet-stereo-requires c κs = search needs
 
 body-length-requires : tie.Need-body-length-requires
 body-length-requires c κs =
-    let s = c .before .before .before .before .before in
+    let s = entry (past-tests c) in
     let short = c .before .before .if2 .left in
     (omega arith, omega (arith, right-within (readSheet (now (s .args .sheet))) (sidesOf (now (s .args .left)) (now (s .args .right))) (s .pre .1)))
 
 -- what the FORM holds
 held : (c : tie.After-body-length) →
-    let a = c .before .before .before .before .before .before .args in
-    12 + c .before .before .chunks-length .result + c .body-length .result + c .body-length .result % 2 ≡ length (contents (readSheet (now (a .sheet))) (a .c) (sidesOf (now (a .left)) (now (a .right))))
+    let a = entry (past-tests (c .before)) .args in
+    let n = c .body-length .result in
+    12 + c .before .before .chunks-length .result + n + n % 2 ≡ length (contents (readSheet (now (a .sheet))) (a .c) (sidesOf (now (a .left)) (now (a .right))))
 held c =
-    let a = c .before .before .before .before .before .before .args in
+    let a = entry (past-tests (c .before)) .args in
     let body = ap (λ b. length (bodyBytes (a .c) b (now (a .left)) (now (a .right)))) (c .before .sheet-stereo .ensures) in
     omega (arith, contents-length (readSheet (now (a .sheet))) (a .c) (sidesOf (now (a .left)) (now (a .right))), c .before .before .chunks-length .ensures .0, c .body-length .ensures .0, body)
 
@@ -64,7 +71,7 @@ add-held-3 c = search needs
 
 returns-3 : tie.Need-returns-3
 returns-3 c =
-    let a = c .before .before .before .before .before .before .before .args in
+    let a = entry (past-tests (c .before .before)) .args in
     sym (ap lengthOf (held-long (contents (readSheet (now (a .sheet))) (a .c) (sidesOf (now (a .left)) (now (a .right)))) (omega (arith, held (c .before), c .if3 .taken))))
 
 add-length : tie.Need-add-length
@@ -72,7 +79,7 @@ add-length c = search needs
 
 returns-4 : tie.Need-returns-4
 returns-4 c =
-    let a = c .before .before .before .before .before .before .before .args in
+    let a = entry (past-tests (c .before .before)) .args in
     let k = contents (readSheet (now (a .sheet))) (a .c) (sidesOf (now (a .left)) (now (a .right))) in
     ap Length (omega (arith, held (c .before), file-length k)) ∙ sym (ap lengthOf (held-fits k (omega (arith, held (c .before), c .if3 .left))))
 
