@@ -21,7 +21,6 @@ use Rattle.field.specs.Signed.{sampleOf}
 use Rattle.header.specs.Octaves.{hi, totalSamples, total}
 use Rattle.header.specs.declared.compression.Compression.{Compression}
 use Rattle.header.specs.declared.compression.Compression.the-variants.{None, Fibonacci}
-use Rattle.header.specs.declared.«voice_header».Total.the-variants as totals
 use Rattle.header.specs.declared.«voice_header».VoiceHeader.{VoiceHeader}
 use Rattle.fibonacci.specs.Decode.{fibSamples}
 use Rattle.fibonacci.proofs.DecodeLaws.{samples-length}

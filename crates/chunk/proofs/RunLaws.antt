@@ -71,7 +71,3 @@ padded-first c l id b p =
 pub run-items : {a : List ℕ} {xs : List Item} → Run a xs → (l : List ℕ) → itemsOf (a ++ l) ≡ xs ++ itemsOf l
 run-items empty l = refl
 run-items (then {c} {l = a} {b} {id} {xs} p r) l = rw append-assoc (padded-first c (a ++ l) id b p ∙ ap (λ (ys : List Item). chunk id b ∷ ys) (run-items r l))
-
--- a complete chunk put in between
-pub insert-items : {a c b : List ℕ} {xs : List Item} {id : ℕ} → Run a xs → Padded c id b → (l : List ℕ) → itemsOf (a ++ (c ++ l)) ≡ xs ++ (chunk id b ∷ itemsOf l)
-insert-items {c = c} {b} {xs} {id} r p l = run-items r (c ++ l) ∙ ap (λ (ys : List Item). xs ++ ys) (padded-first c l id b p)

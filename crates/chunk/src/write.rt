@@ -2,7 +2,6 @@
 use field::put_all;
 use field::put_byte;
 use field::put32;
-ghost use mathlib.Core.Path.{_≡_};
 ghost use Prim.Native.Nat.{_+_, _^_, _<_};
 ghost use lib.ListN.{length};
 ghost use Rattle.laws.specs.Put.{Put};

@@ -13,7 +13,6 @@ use Rattle.laws.proofs.Cases.{impossible}
 use Rattle.laws.specs.Buffer.{written}
 use Rattle.refusal.specs.Numbers.{bufferShort}
 use Rattle.refusal.specs.Outcome.{Outcome, gives, refuses, andThen}
-use Rattle.field.specs.BigEndian.{Bytes}
 use Rattle.sheet.specs.Flat.{flat}
 use Rattle.note_frame.specs.declared.chain.Frame.{Frame}
 use Rattle.note_frame.specs.declared.playing.Key.{Key}

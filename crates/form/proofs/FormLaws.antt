@@ -1,12 +1,11 @@
 -- The laws of the kinds, of the first bad chunk and of the chunks of a name.
 --     kind-name, kind-none                            a name's kind
---     size-least, size-unit                           what a right payload has
+--     size-least                                      what a right payload has
 --     all-hit, all-miss, bad-here, bad-later          what one answer of the walk does to each
---     sound-at, never-refused                         the walk of a FORM that has no bad chunk
---     first-sound, all-sound                          its chunks of a name are right
+--     sound-step, first-sound                         chunks without a bad one
 -- Assumes nothing.
 use Prim.Native.Nat.{ℕ, zero, suc, _+_, _-_, _%_, _≤_, _<_}
-use borrow.Author.Tests.{eq-eqb, ne-eqb, eqb-true, ltb-true, ltb-false, not-false}
+use borrow.Author.Tests.{eq-eqb, ne-eqb, eqb-true, ltb-true, ltb-false}
 use lib.Dec.{eqb, ltb, ltb→lt, eqb→eq}
 use lib.ListN.{length, getD, take, drop, set}
 use mathlib.Core.Bool.{Bool, true, false, cond, not}
@@ -21,7 +20,7 @@ use Rattle.field.specs.BigEndian.{bigEndian}
 use Rattle.chunk.specs.Chunk.{Item, chunk, bad, itemsFrom}
 use Rattle.chunk.specs.ForCode.{stepAt}
 use Rattle.chunk.specs.declared.ChunkStep.the-variants.{Refused}
-use Rattle.chunk.proofs.ChunkLaws.{Whole, step-end, step-past, step-whole, at-refused}
+use Rattle.chunk.proofs.ChunkLaws.{Whole, step-end, step-past, step-whole}
 use Rattle.form.specs.Kind.{names, placeIn, kindOf, least, unit, single, lengthWrong}
 use Rattle.form.specs.FirstBad.{channelWrong, chunkWrong, orElse, badFrom, noneCame, firstBad}
 use Rattle.form.specs.Find.{allOf, firstOf}
@@ -55,11 +54,6 @@ module _ (kind n : ℕ) where
   pub size-least : lengthWrong kind n ≡ false → getD least kind 0 ≤ n
   unfolding lengthWrong
   size-least e = ltb-false n (getD least kind 0) (neither (ltb n (getD least kind 0)) (not (eqb (n % getD unit kind 0) 0)) e .0)
-
-  pub size-unit : lengthWrong kind n ≡ false → n % getD unit kind 0 ≡ 0
-  unfolding lengthWrong
-  size-unit e =
-      eqb-true (n % getD unit kind 0) 0 (not-false (eqb (n % getD unit kind 0) 0) (neither (ltb n (getD least kind 0)) (not (eqb (n % getD unit kind 0) 0)) e .1))
 
 -- ---- a right chunk
 
@@ -138,18 +132,6 @@ module _ (came : List Bool) where
   pub right-first : (id : ℕ) (b : List ℕ) (items : List Item) → badFrom came (chunk id b ∷ items) ≡ 0 → Right id b
   right-first id b items e = wrong-none (getD came (kindOf id) false) id b (sound-step id b items e .0) .1
 
-  -- the same at a place of the walk
-  pub sound-at : {f : List ℕ} {at id start n next : ℕ} → Whole f at id start n next → badFrom came (itemsFrom f at) ≡ 0
-      → (chunkWrong (getD came (kindOf id) false) (kindOf id) (take n (drop start f)) ≡ 0) × (badFrom (cameThen came id) (itemsFrom f next) ≡ 0)
-  sound-at {f} {id = id} {start} {n} {next} w e = sound-step id (take n (drop start f)) (itemsFrom f next) (rw (w .items) at e)
-
-  -- the walk refuses none
-  pub never-refused : (f : List ℕ) (at r : ℕ) → badFrom came (itemsFrom f at) ≡ 0 → stepAt f at ≡ Refused r → ⊥
-  unfolding badFrom
-  never-refused f at r e s =
-      let here : badFrom came (itemsFrom f at) ≡ r = rw (at-refused f at r s) in
-      omega (arith, refused-number f at r s)
-
 -- the first of a name is right, whatever came before
 pub first-from : (came : List Bool) (id : ℕ) (items : List Item) → badFrom came items ≡ 0 → (b : List ℕ) → firstOf id items ≡ some b → Right id b
 unfolding firstOf
@@ -164,23 +146,7 @@ first-from came id (chunk i d ∷ items) e b h =
         rw (← same, ← eqb-true i id p) r
     go false p r k later = later k
 
--- what holds of no payload, and of one right payload more, holds of all of a name, whatever came before
-pub all-from : (came : List Bool) (id : ℕ) (items : List Item) → badFrom came items ≡ 0
-    → (P : List (List ℕ) → Type 0) → P [] → ((b : List ℕ) (bs : List (List ℕ)) → Right id b → P bs → P (b ∷ bs)) → P (allOf id items)
-unfolding allOf
-all-from came id [] e P nil more = nil
-all-from came id (bad number ∷ items) e P nil more = nil
-all-from came id (chunk i d ∷ items) e P nil more =
-    go (eqb i id) refl (right-first came i d items e) (all-from (cameThen came i) id items (sound-step came i d items e .1) P nil more)
-  where
-    go : (t : Bool) → eqb i id ≡ t → Right i d → P (allOf id items) → P (cond t (d ∷ allOf id items) (allOf id items))
-    go true p r rest = more d (allOf id items) (rw (← eqb-true i id p) r) rest
-    go false p r rest = rest
-
 -- the same of a whole FORM
 module _ (id : ℕ) (items : List Item) (e : firstBad items ≡ 0) where
   pub first-sound : (b : List ℕ) → firstOf id items ≡ some b → Right id b
   first-sound = first-from noneCame id items e
-
-  pub all-sound : (P : List (List ℕ) → Type 0) → P [] → ((b : List ℕ) (bs : List (List ℕ)) → Right id b → P bs → P (b ∷ bs)) → P (allOf id items)
-  all-sound = all-from noneCame id items e

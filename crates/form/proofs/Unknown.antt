@@ -1,32 +1,17 @@
--- A chunk of a name without rules changes neither the first bad chunk nor the chunks of another name, wherever it stands.
+-- A chunk of a name without rules changes nothing of the first bad chunk, wherever it stands.
 -- Assumes nothing.
 use Prim.Native.Nat.{ℕ, zero, suc, zero-le}
-use borrow.Author.Tests.{ne-eqb, le-ltb}
-use lib.Dec.{eqb}
+use borrow.Author.Tests.{le-ltb}
 use lib.ListN.{length, getD, set}
 use lib.Seq.{set-getD}
-use mathlib.Core.Bool.{Bool, false, cond}
+use mathlib.Core.Bool.{Bool, false}
 use mathlib.Core.List.{List, [], _∷_, _++_}
-use mathlib.Core.Option.{Option, some}
 use mathlib.Core.Path.{_≡_, refl, ap, sym, _∙_}
 use native.Mathlib.Nat.{mod-one}
 use Rattle.chunk.specs.Chunk.{Item, chunk, bad}
 use Rattle.form.proofs.FormLaws.{cameThen}
 use Rattle.form.specs.Kind.{kindOf, single, lengthWrong}
 use Rattle.form.specs.FirstBad.{channelWrong, chunkWrong, orElse, badFrom}
-use Rattle.form.specs.Find.{allOf, firstOf}
-
-pub first-same : (id i : ℕ) (b : List ℕ) (xs ys : List Item) → (i ≡ id → ⊥) → firstOf id (xs ++ chunk i b ∷ ys) ≡ firstOf id (xs ++ ys)
-unfolding firstOf
-first-same id i b [] ys h = rw (ne-eqb i id h)
-first-same id i b (bad number ∷ xs) ys h = refl
-first-same id i b (chunk j d ∷ xs) ys h = ap (λ (r : Option (List ℕ)). cond (eqb j id) (some d) r) (first-same id i b xs ys h)
-
-pub all-same : (id i : ℕ) (b : List ℕ) (xs ys : List Item) → (i ≡ id → ⊥) → allOf id (xs ++ chunk i b ∷ ys) ≡ allOf id (xs ++ ys)
-unfolding allOf
-all-same id i b [] ys h = rw (ne-eqb i id h)
-all-same id i b (bad number ∷ xs) ys h = refl
-all-same id i b (chunk j d ∷ xs) ys h = ap (λ (r : List (List ℕ)). cond (eqb j id) (d ∷ r) r) (all-same id i b xs ys h)
 
 unknown-right : (b : List ℕ) → chunkWrong false 0 b ≡ 0
 unfolding chunkWrong lengthWrong channelWrong

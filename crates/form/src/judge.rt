@@ -16,7 +16,7 @@ ghost use Prim.Native.Nat.{_≤_, _<_};
 ghost use lib.ListN.{length};
 ghost use Rattle.chunk.specs.Chunk.{itemsFrom};
 ghost use Rattle.form.specs.Kind.{kindOf, lengthWrong};
-ghost use Rattle.form.specs.FirstBad.{channelWrong, chunkWrong, badFrom, noneCame, firstBad};
+ghost use Rattle.form.specs.FirstBad.{channelWrong, chunkWrong, firstBad};
 
 // A chunk's kind: its place in the list of the names that have rules, from 1; 0 for another name.
 fn kind_of(id: u32) -> usize

@@ -4,14 +4,11 @@
 --     fill-same                           from two frames on, with the same rules and next frames
 -- Assumes nothing.
 use Prim.Native.Nat.{ℕ, _/_}
-use mathlib.Core.Bool.{Bool, true, false, cond}
 use mathlib.Core.List.{List}
-use mathlib.Core.Path.{_≡_, refl, _∙_}
-use borrow.Author.Tests.{eq-eqb, ne-eqb, eqb-true, eqb-false}
-use lib.Dec.{eqb}
+use mathlib.Core.Path.{_≡_}
+use borrow.Author.Tests.{eq-eqb, ne-eqb}
 use lib.ListN.{length}
-use Rattle.laws.proofs.Cases.{impossible}
-use Rattle.refusal.specs.Outcome.{Outcome, gives, refuses}
+use Rattle.refusal.specs.Outcome.{gives, refuses}
 use Rattle.sheet.specs.Voice.{Voice}
 use Rattle.body_read.specs.Sides.{Sides}
 use Rattle.note_frame.specs.declared.chain.Frame.{Frame}

@@ -11,7 +11,6 @@ ghost use lib.ListN.{length};
 ghost use Rattle.sheet.specs.Judge.{judged};
 ghost use Rattle.sheet.specs.Read.{readSheet};
 ghost use Rattle.sheet.specs.declared.judge.Judged.the-variants.{Sound};
-ghost use Rattle.body_read.specs.Sides.{Sides};
 ghost use Rattle.note.specs.Note.{startOf, keyAfter, keyUpOf, advanceOf};
 ghost use Rattle.note.specs.Fill.{fillVoice, fillLeaves, afterFill};
 

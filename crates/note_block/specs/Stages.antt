@@ -2,7 +2,7 @@
 use Prim.Native.Nat.{ℕ}
 use mathlib.Core.Bool.{Bool, true, false}
 use mathlib.Core.List.{List}
-use lib.IntN.{ℤ, pos}
+use lib.IntN.{pos}
 use Rattle.small_chunks.specs.Pan.{heldToUnity}
 use Rattle.envelope.specs.Envelope.{levelAt}
 use Rattle.sheet_layout.specs.Members.{pointsIn}

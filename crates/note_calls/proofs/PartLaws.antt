@@ -4,7 +4,7 @@
 --     accepted-within, accepted-length       how many values a fill puts out, by its answer
 --     part-places, part-stored               the part's length; a fill's accepted block, stored at the part's place of the whole
 -- Assumes nothing.
-use Prim.Native.Nat.{ℕ, _+_, _-_, _/_, _%_, _≤_}
+use Prim.Native.Nat.{ℕ, _+_, _/_, _%_, _≤_}
 use mathlib.Core.List.{List, _++_, append-assoc}
 use mathlib.Core.Path.{_≡_, refl, sym, ap, _∙_}
 use native.Mathlib.Omega.{arith}

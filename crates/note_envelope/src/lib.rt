@@ -3,7 +3,6 @@ use envelope::on_the_way;
 use sheet_layout::next_member;
 use small_chunks::held_to_unity;
 use small_chunks::read_point;
-ghost use mathlib.Core.Path.{_≡_};
 ghost use Prim.Native.Nat.{_≤_};
 ghost use Rattle.sheet_layout.specs.Members.{Whole};
 ghost use Rattle.note_envelope.specs.Cursor.{Ready, Moved, Stood, Follows};

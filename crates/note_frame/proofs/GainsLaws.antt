@@ -27,7 +27,7 @@ use Rattle.body_read.specs.Sides.{Sides}
 use Rattle.sheet.specs.Voice.{Voice, isStereo}
 use Rattle.note_path.specs.Path.{joinedLength}
 use Rattle.note_path.proofs.LengthLaws.{scaled-length}
-use Rattle.note_frame.specs.Frame.{volumeOf, shareOf, rightSamples, fadedIn, fadedAt, value, frameAt}
+use Rattle.note_frame.specs.Frame.{volumeOf, shareOf, fadedIn, fadedAt, value, frameAt}
 use Rattle.note_frame.specs.declared.chain.Gains.{Gains}
 use Rattle.note_frame.specs.Shares.{sharesOf}
 use Rattle.note_frame.specs.declared.shares.Shares.{Shares}

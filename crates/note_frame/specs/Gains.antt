@@ -1,6 +1,6 @@
 -- What the code keeps of a voice from frame to frame, and a frame by that; `frame-gains` in the laws says that it is the frame. No reader
 -- of the definition of a frame needs it.
-use Prim.Native.Nat.{ℕ, _-_, _≤_, _<_, _^_}
+use Prim.Native.Nat.{ℕ, _≤_, _<_, _^_}
 use mathlib.Core.Bool.{true, false, cond}
 use mathlib.Core.List.{List}
 use mathlib.Core.Option.{Option, none, some}

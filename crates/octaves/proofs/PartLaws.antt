@@ -23,7 +23,6 @@ use Rattle.header.specs.Octaves.{hi, octaves, inOctave, totalSamples}
 use Rattle.header.specs.declared.«voice_header».VoiceHeader.{VoiceHeader}
 use Rattle.header.specs.declared.«voice_header».SampleCount.{SampleCount}
 use Rattle.header.specs.declared.«voice_header».SampleCount.the-variants as count
-use Rattle.header.proofs.OctaveLaws.{octave-end}
 use Rattle.sheet.specs.Judge.{judged, ifSound}
 use Rattle.sheet.specs.Read.{readSheet}
 use Rattle.sheet.specs.Voice.{isStereo}
@@ -81,10 +80,6 @@ module _ (h : VoiceHeader) (n k : ℕ) where
     pub octave-at : k < octaves h → hi h * (2 ^ k - 1) + hi h * 2 ^ k ≤ n → octavePart h n k ≡ At (hi h * (2 ^ k - 1)) (hi h * 2 ^ k)
     unfolding octavePart
     octave-at l r = rw (ne-eqb (hi h) 0 some, lt-ltb k (octaves h) l, le-leb (hi h * (2 ^ k - 1) + hi h * 2 ^ k) n r)
-
-    -- in a side that has all samples, each octave is there
-    pub octave-there : k < octaves h → totalSamples h ≤ n → octavePart h n k ≡ At (hi h * (2 ^ k - 1)) (hi h * 2 ^ k)
-    octave-there l r = octave-at l (omega (arith, octave-end h k l))
 
   pub octave-within : LiesWithin (octavePart h n k) n
   unfolding octavePart

@@ -11,7 +11,7 @@ ghost use lib.ListN.{length};
 ghost use Rattle.sheet.specs.Judge.{judged};
 ghost use Rattle.sheet.specs.Read.{readSheet};
 ghost use Rattle.sheet.specs.declared.judge.Judged.the-variants.{Sound};
-ghost use Rattle.octaves.specs.Part.{partOf, partAt};
+ghost use Rattle.octaves.specs.Part.{partOf};
 ghost use Rattle.octaves.specs.Side.{ofSide, voiceSide, sidePart};
 
 pub enum Side {

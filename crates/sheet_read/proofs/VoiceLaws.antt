@@ -3,9 +3,8 @@
 --     form-tidy        no text has anything to cut or to trim
 --     sheet-bound      its sheet is at most 16 times as long as the FORM
 -- Assumes nothing.
-use Prim.Native.Nat.{ℕ, _*_, _≤_}
+use Prim.Native.Nat.{ℕ}
 use lib.Dec.{lit<}
-use lib.ListN.{length, length-append}
 use mathlib.Core.Bool.{true}
 use mathlib.Core.List.{List, [], map}
 use mathlib.Core.Logic.{⊎-elim}
@@ -23,15 +22,12 @@ use Rattle.form.specs.Names.{vhdr, pan, atak, rlse, seqn, fade}
 use Rattle.text.specs.Text.{tidy, clean}
 use Rattle.text.proofs.Theorems.{clean-well-formed, clean-tidy}
 use Rattle.sheet.specs.Allowed.{All, IfThere, PanFits, PointFits, SegmentFits, FadeFits, TextAllowed, Allowed}
-use Rattle.sheet.specs.Flat.{flat}
 use Rattle.sheet.specs.Read.{mapOption, bodyOf}
 use Rattle.sheet_read.specs.FormVoice.{textKey, formVoice}
-use Rattle.sheet_read.specs.ForCode.{Readable}
-use Rattle.sheet_read.proofs.BoundLaws.{record-bound, channel-bound, envelope-bound, sequence-bound, texts-bound}
 use Rattle.sheet_read.proofs.CleanLaws.{clean-bytes}
 use Rattle.sheet_read.proofs.CutLaws.{parts-fit}
 use Rattle.sheet_read.proofs.FitLaws.{pan-fits, point-fits, segment-fits, fade-fits}
-use Rattle.sheet_read.proofs.FlatLaws.{payload-bytes, flat-parts}
+use Rattle.sheet_read.proofs.FlatLaws.{payload-bytes}
 use Rattle.sheet_read.proofs.ItemLaws.{Payloads, any-payloads, first-payload, all-payloads}
 use Rattle.sheet_read.proofs.TextLaws.{key-most, all-texts}
 
@@ -83,20 +79,3 @@ form-tidy items =
     all-texts (λ t. tidy (t .bytes) ≡ true) (λ l. Unit {0})
     (λ id l u k t. ⊎-elim (λ (e : clean l ≡ []). absurd (t e)) (λ (e : tidy (clean l) ≡ true). e) (clean-tidy l))
     items (any-payloads (λ l. Unit {0}) (λ l. tt) items)
-
--- ---- the sheet's length
-
-pub sheet-bound : (f : List ℕ) → Bytes f → Readable f → length (flat (formVoice (itemsFrom f 12))) ≤ 16 * length f
-sheet-bound f b r =
-    rw (flat-parts f b r, length-append, length-append, length-append, length-append, length-append, length-append, length-append)
-    (omega (
-      arith,
-      record-bound vhdr 1 20 f,
-      channel-bound f,
-      record-bound pan 3 4 f,
-      envelope-bound atak 4 f,
-      envelope-bound rlse 5 f,
-      sequence-bound f,
-      record-bound fade 9 4 f,
-      texts-bound f,
-    ))

@@ -17,7 +17,6 @@ ghost use Rattle.field.specs.Tagged.{tagged};
 ghost use Rattle.chunk.specs.Chunk.{itemsFrom};
 ghost use Rattle.form.specs.FirstBad.{firstBad};
 ghost use Rattle.form.specs.Kind.{kindOf, least};
-ghost use Rattle.sheet_read.specs.ForCode.{Readable};
 ghost use Rattle.sheet_read.specs.Parts.{recordPart, channelPart, envelopePart, segmentsPart};
 
 // A record of a kind whose body is the first n bytes of the chunk of a name, where there is one.

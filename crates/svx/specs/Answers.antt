@@ -5,7 +5,6 @@ use Rattle.refusal.specs.declared.Output.{Output}
 use Rattle.refusal.specs.declared.Output.the-variants as output
 use Rattle.sheet.specs.declared.judge.Judged.{Judged}
 use Rattle.sheet.specs.declared.judge.Judged.the-variants as judged
-use Rattle.voice_read.specs.declared.chunks.Lengths.{Lengths}
 use Rattle.voice_read.specs.declared.chunks.Parsed.{Parsed}
 use Rattle.voice_read.specs.declared.chunks.Parsed.the-variants as parsed
 

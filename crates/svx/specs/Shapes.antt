@@ -1,6 +1,6 @@
 -- Answers as structs that cross to C.
 use Prim.Native.Nat.{ℕ}
-use mathlib.Core.Bool.{Bool, true, false, cond}
+use mathlib.Core.Bool.{true, false, cond}
 use mathlib.Core.List.{List}
 use mathlib.Core.Path.{_≡_}
 use lib.Dec.{eqb}
@@ -19,7 +19,6 @@ use Rattle.samples.specs.declared.loudness.Loudest.the-variants as loudest
 use Rattle.sheet.specs.declared.record.RecordStep.{RecordStep}
 use Rattle.sheet.specs.declared.record.RecordStep.the-variants as step
 use Rattle.small_chunks.specs.Pan.{panWeights}
-use Rattle.small_chunks.specs.declared.pan.Pan.{Pan}
 use Rattle.svx.specs.declared.leaves.SvxFrequency.{SvxFrequency}
 use Rattle.svx.specs.declared.leaves.SvxPan.{SvxPan}
 use Rattle.svx.specs.declared.leaves.SvxPeak.{SvxPeak}
@@ -42,9 +41,9 @@ abbrev pub weightsAt : ℤ → SvxPan
 weightsAt position = record { left = panWeights (record { position = position }) .left; right = panWeights (record { position = position }) .right }
 
 -- a part
-abbrev pub partOf : Part → SvxPart
-partOf (part.At start n) = record { there = true; start = start; length = n }
-partOf part.Absent = record { there = false; start = 0; length = 0 }
+abbrev pub partShape : Part → SvxPart
+partShape (part.At start n) = record { there = true; start = start; length = n }
+partShape part.Absent = record { there = false; start = 0; length = 0 }
 
 -- a length as a part from 0 on
 abbrev pub countOf : SampleCount → SvxPart

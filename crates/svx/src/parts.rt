@@ -11,7 +11,7 @@ ghost use Rattle.header.specs.Octaves.{hi, inOctave};
 ghost use Rattle.octaves.specs.Octave.{repeatPart};
 ghost use Rattle.octaves.specs.Side.{sidePart};
 ghost use Rattle.octaves.specs.declared.side.Side.the-variants.{Left, Right};
-ghost use Rattle.svx.specs.Shapes.{partOf, countOf, octaveHeader};
+ghost use Rattle.svx.specs.Shapes.{partShape, countOf, octaveHeader};
 
 // Where it isn't there, the rest is 0.
 #[repr(C)]
@@ -22,7 +22,7 @@ pub struct SvxPart {
 }
 
 fn hand_part(part: Part) -> SvxPart
-    ensures { λ r. ⌜ r ≡ partOf part ⌝ }
+    ensures { λ r. ⌜ r ≡ partShape part ⌝ }
 {
     match part {
         Part::At(start, n) => SvxPart {
@@ -80,7 +80,7 @@ pub extern "C" fn svx_loop_repeat(
     k: u8,
     octave_len: u64,
 ) -> SvxPart
-    ensures { λ r. ⌜ r ≡ partOf (repeatPart (octaveHeader «one_shot» repeat octaves) «octave_len» k) ⌝ }
+    ensures { λ r. ⌜ r ≡ partShape (repeatPart (octaveHeader «one_shot» repeat octaves) «octave_len» k) ⌝ }
 {
     let h = octave_header(one_shot, repeat, octaves);
     hand_part(repeat_part(h, octave_len as usize, k))
@@ -93,7 +93,7 @@ pub extern "C" fn svx_side_samples(
     right_len: u64,
     right: bool,
 ) -> SvxPart
-    ensures { λ r. ⌜ r ≡ partOf (cond right (sidePart (now (sheet .entry)) Right «right_len») (sidePart (now (sheet .entry)) Left «left_len»)) ⌝ }
+    ensures { λ r. ⌜ r ≡ partShape (cond right (sidePart (now (sheet .entry)) Right «right_len») (sidePart (now (sheet .entry)) Left «left_len»)) ⌝ }
 {
     if right {
         return hand_part(side_part(sheet, Side::Right, right_len as usize));

@@ -4,20 +4,16 @@
 --     answer-refused, sheet-short .. answer-fits    the answer and the buffers after a call
 --     outputs-room, outputs-written                 the outputs of a file that is read: they have room, and are its answer
 -- Assumes nothing.
-use Prim.Native.Nat.{ℕ, _+_, _^_, _≤_, _<_}
+use Prim.Native.Nat.{ℕ, _^_, _≤_, _<_}
 use borrow.Author.Tests.{le-leb, lt-leb}
 use lib.Dec.{leb}
 use lib.IntN.{ℤ}
 use lib.ListN.{length}
-use lib.Seq.{sets-eq}
 use mathlib.Core.Bool.{Bool, true, false, _&&_}
 use mathlib.Core.List.{List}
-use mathlib.Core.Path.{_≡_, refl, sym, ap, _∙_}
-use native.Mathlib.Omega.{arith}
-use native.Mathlib.Nat.{zero-add}
+use mathlib.Core.Path.{_≡_, refl, sym, ap}
 use Rattle.laws.proofs.Cases.{impossible}
 use Rattle.laws.specs.Buffer.{written}
-use Rattle.laws.specs.Put.{Put}
 use Rattle.refusal.specs.Numbers.{bufferShort}
 use Rattle.refusal.specs.Outcome.{Outcome, gives, refuses, andThen}
 use Rattle.chunk.specs.Chunk.{itemsFrom}

@@ -5,22 +5,19 @@
 --     items-given, file-given               a reading is of chunks without a bad one, with a VHDR and a BODY
 --     form-short, file-readable             of a file of bytes, the FORM's sheet can be written
 -- Assumes nothing.
-use Prim.Native.Nat.{ℕ, _+_, _^_, _≤_, _<_}
-use borrow.Author.Tests.{eq-eqb, ne-eqb, eqb-true, eqb-false, lt-ltb, le-ltb, ltb-true, ltb-false}
-use lib.Dec.{eqb, ltb}
-use lib.ListN.{length, drop, length-take}
+use Prim.Native.Nat.{ℕ, _≤_, _<_}
+use borrow.Author.Tests.{eq-eqb, ne-eqb, eqb-true, eqb-false, lt-ltb, le-ltb}
+use lib.Dec.{eqb}
+use lib.ListN.{length, drop}
 use mathlib.Core.Bool.{Bool, true, false, true≢false}
 use mathlib.Core.List.{List}
 use mathlib.Core.Option.{Option, none, some}
 use mathlib.Core.Path.{_≡_, refl, sym, _∙_}
-use native.Mathlib.Omega.{arith}
 use Rattle.laws.proofs.Cases.{impossible}
 use Rattle.refusal.specs.Numbers.{fileShort, notForm, not8svx, noHeader, noBody}
 use Rattle.refusal.specs.Outcome.{Outcome, gives, refuses, andThen}
-use Rattle.field.specs.BigEndian.{bigEndian, Bytes}
-use Rattle.field.proofs.BigEndianLaws.{bytes-drop, number-fits}
-use Rattle.chunk.specs.Chunk.{Item, itemsFrom, endOf}
-use Rattle.chunk.proofs.ChunkLaws.{end-length}
+use Rattle.field.specs.BigEndian.{bigEndian}
+use Rattle.chunk.specs.Chunk.{Item, itemsFrom}
 use Rattle.form.specs.FirstBad.{firstBad}
 use Rattle.form.specs.Find.{firstOf}
 use Rattle.form.specs.Names.{form, formType, vhdr, body}
@@ -28,7 +25,7 @@ use Rattle.sheet.specs.Read.{bodyOf}
 use Rattle.sheet.specs.Voice.{Voice, isStereo}
 use Rattle.body_read.specs.Sides.{Sides, bodySides}
 use Rattle.sheet_read.specs.FormVoice.{formVoice}
-use Rattle.sheet_read.specs.ForCode.{isSome, Readable}
+use Rattle.sheet_read.specs.ForCode.{isSome}
 use Rattle.voice_read.specs.ReadVoice.{Reading, withChunk, withSides, readItems, formOf, headRefusal, readVoice}
 
 -- ---- the chunks of a FORM
@@ -157,17 +154,6 @@ items-given items r e = bad-or (eqb (firstBad items) 0) refl
     bad-or true p = header-or (eqb-true (firstBad items) 0 p) (isSome (firstOf vhdr items)) refl
     bad-or false p = never (sym (items-bad items (eqb-false (firstBad items) 0 p)) ∙ e)
 
--- the part that is walked is at most as long as its length field can say
-pub form-short : (file : List ℕ) → Bytes file → length (formOf file) < 2 ^ 33
-form-short file b = go (ltb (bigEndian 4 (drop 4 file) + 8) (length file)) refl
-  where
-    field : bigEndian 4 (drop 4 file) < 256 ^ 4
-    field = number-fits 4 (drop 4 file) (bytes-drop 4 file b)
-
-    go : (t : Bool) → ltb (bigEndian 4 (drop 4 file) + 8) (length file) ≡ t → length (formOf file) < 2 ^ 33
-    go true p = omega (arith, field, length-take (endOf file) file, end-length file (ltb-true (bigEndian 4 (drop 4 file) + 8) (length file) p))
-    go false p = omega (arith, field, length-take (endOf file) file, ltb-false (bigEndian 4 (drop 4 file) + 8) (length file) p)
-
 module _ (file : List ℕ) (r : Reading) (e : readVoice file ≡ gives r) where
   pub file-form : headRefusal file ≡ 0
   file-form = go (eqb (headRefusal file) 0) refl
@@ -178,6 +164,3 @@ module _ (file : List ℕ) (r : Reading) (e : readVoice file ≡ gives r) where
 
   pub file-given : Given (itemsFrom (formOf file) 12) r
   file-given = items-given (itemsFrom (formOf file) 12) r (sym (voice-form file file-form) ∙ e)
-
-  pub file-readable : Bytes file → Readable (formOf file)
-  file-readable b = record { sound = file-given .sound; header = file-given .header; short = form-short file b }

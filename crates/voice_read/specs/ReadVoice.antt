@@ -8,7 +8,6 @@ use lib.ListN.{length, take, drop}
 use Rattle.refusal.specs.Numbers.{fileShort, notForm, not8svx, noHeader, noBody}
 use Rattle.refusal.specs.Outcome.{Outcome, gives, refuses, andThen}
 use Rattle.field.specs.BigEndian.{bigEndian}
-use Rattle.header.specs.Header.{headerOf}
 use Rattle.chunk.specs.Chunk.{Item, itemsFrom, endOf}
 use Rattle.form.specs.Names.{form, formType, vhdr, body}
 use Rattle.form.specs.FirstBad.{firstBad}

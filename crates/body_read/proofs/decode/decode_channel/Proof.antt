@@ -1,10 +1,8 @@
 -- `body_read::decode::decode_channel` meets its contract: the count says what the channel gives, and the test whether it fits.
 -- Assumes nothing.
 use mathlib.Core.Path.{sym, _∙_}
-use lib.ListN.{take}
 use Rattle.refusal.proofs.OutcomeLaws.{outcome-refused, outcome-fits, outcome-short}
 use Rattle.body_read.specs.Sides.{channelSamples}
-use Rattle.body_read.specs.Helpers.{streamSamples}
 use Rattle.body_read.proofs.ChannelLaws.{Channel, count-refused, channel-gives}
 use borrow.Author.Needs.{needs}
 use Rattle.body_read.proofs.decode.decode_channel.Statement.{statement}

@@ -2,7 +2,7 @@
 -- Assumes nothing.
 use mathlib.Core.Bool.{not}
 use mathlib.Core.List.{List}
-use mathlib.Core.Path.{_≡_, sym, ap, _∙_}
+use mathlib.Core.Path.{sym, ap, _∙_}
 use Rattle.refusal.specs.Rules.{Rule}
 use Rattle.refusal.proofs.RuleLaws.{Passed, first-here, first-later, first-none, first-stands, first-join}
 use Rattle.note_rules.specs.Rules.{speedRules, noteRules}

@@ -26,9 +26,6 @@ start c = c .before .before .before .before .before
 abbrev after-start : tie.After-parse → tie.After-start
 after-start c = c .before .before .before
 
-abbrev after-parse : tie.After-known-told2 → tie.After-parse
-after-parse c = c .before .before .before
-
 abbrev after-told2 : tie.After-slice-known2 → tie.After-known-told2
 after-told2 c = c .before .before .before .before
 

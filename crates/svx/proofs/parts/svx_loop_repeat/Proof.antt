@@ -3,7 +3,7 @@
 use mathlib.Core.Path.{ap, _∙_}
 use borrow.Author.Needs.{needs}
 use Rattle.octaves.specs.Octave.{repeatPart}
-use Rattle.svx.specs.Shapes.{partOf}
+use Rattle.svx.specs.Shapes.{partShape}
 use Rattle.svx.proofs.parts.svx_loop_repeat.Statement.{statement}
 use Rattle.svx.proofs.parts.svx_loop_repeat.Tie as tie
 
@@ -20,7 +20,7 @@ returns : tie.Need-returns
 returns c =
     let a = c .before .before .before .args in
     c .hand-part .ensures
-    ∙ ap partOf (c .before .repeat-part .ensures ∙ ap (λ h. repeatPart h (a .octave-len) (a .k)) (c .before .before .octave-header .ensures))
+    ∙ ap partShape (c .before .repeat-part .ensures ∙ ap (λ h. repeatPart h (a .octave-len) (a .k)) (c .before .before .octave-header .ensures))
 
 pub svx-loop-repeat-spec : {M : Type 1} → statement M
 svx-loop-repeat-spec =
