@@ -1,81 +1,74 @@
-// A stem: the first frames of a note, filled block by block into one buffer, left and right values by turns.
+// A stem: the first 2,000 frames of a note, made by one list of calls, left and right values by turns.
 use note::Answer;
 use note::Note;
-ghost use Prim.Native.Nat.{_+_, _^_, _≤_, _<_};
+use note_calls::KEY_UP;
+use note_calls::Made;
+use note_calls::REFUSED;
+use note_calls::make_calls;
+ghost use Prim.Native.Nat.{_+_, _≤_, _<_};
+ghost use lib.ListN.{length};
 
-// How many frames come before the key-up.
-const KEY_UP: usize = 1000;
+// How many frames come before the key-up, and as many after it.
+const HALF: usize = 1000;
 
-// Where a block that begins at a frame has to end: at the key-up, if that is to come, or with the stem.
-fn limit(at: usize, frames: usize) -> usize
-    requires { ⌜ at < frames ⌝ }
-    ensures { λ r. ⌜ (at < r) × (r ≤ frames) ⌝ }
+// A block of so many frames, or what is left of them.
+fn next_block(block: usize, left: usize) -> usize
+    requires { ⌜ (0 < block) × (0 < left) ⌝ }
+    ensures { λ r. ⌜ (0 < r) × (r ≤ left) ⌝ }
 {
-    if KEY_UP <= at {
-        return frames;
-    }
-    if frames <= KEY_UP {
-        return frames;
-    }
-    KEY_UP
-}
-
-// Where it ends, with blocks of so many frames.
-fn block_end(at: usize, block: usize, frames: usize) -> usize
-    requires { ⌜ (at < frames) × (0 < block) ⌝ }
-    ensures { λ r. ⌜ (at < r) × (r ≤ frames) ⌝ }
-{
-    let last = limit(at, frames);
-    let left = last - at;
     if block < left {
-        return at + block;
+        return block;
     }
-    last
+    left
 }
 
-// The note at a frame: the key goes up there or not.
-fn note_at(note: Note, at: usize) -> Note {
-    if at == KEY_UP {
-        return note.key_up();
-    }
-    note
-}
-
-// A count with that of one block more; one above the block's frames isn't added.
-fn with_block(count: usize, of_block: usize, frames: usize) -> usize
-    requires { ⌜ count + frames < 2 ^ 64 ⌝ }
-    ensures { λ r. ⌜ r ≤ count + frames ⌝ }
+// Puts fills of 1,000 frames together, in blocks of so many, among the calls from a place on; the place past them.
+fn put_fills(calls: &mut [u64], from: usize, block: usize) -> usize
+    requires { ⌜ (0 < block) × (from + 1000 ≤ length (now calls)) ⌝ }
+    ensures { λ r. ⌜ r ≤ from + 1000 ⌝ }
 {
-    if frames < of_block {
-        return count;
+    let mut at = from;
+    let mut left = HALF;
+    while 0 < left {
+        let frames = next_block(block, left);
+        let places = 2 * frames;
+        calls[at] = places as u64;
+        left -= frames;
+        at += 1;
     }
-    count + of_block
+    at
 }
 
-// Fills a buffer in blocks of so many frames, or shorter ones before the key-up and at the end; answers how many frames aren't over.
+// How many frames aren't over by all answers together, or the first refusal.
+fn all_sounding(answers: &[u64; 2001]) -> Answer {
+    let mut count: u64 = 0;
+    let mut i = 0;
+    while i < 2001 {
+        let answer = answers[i];
+        if REFUSED <= answer {
+            let above = (answer - REFUSED) % 256;
+            let number = above as u8;
+            return Answer::Refused(number);
+        }
+        count = std::num::wrapping_add_u64(count, answer);
+        i += 1;
+    }
+    Answer::Sounding(count as usize)
+}
+
+// Fills a buffer of 4,000 places in blocks of so many frames, or shorter ones before the key-up and at the end; answers how many frames
+// aren't over.
 pub fn play(sheet: &[u8], left: &[i8], right: &[i8], block: usize, out: &mut [i16]) -> Answer
     requires { ⌜ 0 < block ⌝ }
 {
-    let frames = out.len() / 2;
-    let mut note = Note::start(1, 70000, 8000);
-    let mut count = 0;
-    let mut at = 0;
-    while at < frames {
-        let end = block_end(at, block, frames);
-        let from = 2 * at;
-        let to = 2 * end;
-        let filled = note_at(note, at).fill(sheet, left, right, &mut out[from..to]);
-        let answer = filled.answer;
-        match answer {
-            Answer::Refused(number) => {
-                return Answer::Refused(number);
-            }
-            Answer::Sounding(n) => {
-                count = with_block(count, n, end - at);
-            }
-        }
-        note = filled.note;
-        at = end;
+    let mut calls = [0u64; 2001];
+    let mut answers = [0u64; 2001];
+    let up = put_fills(&mut calls, 0, block);
+    calls[up] = KEY_UP;
+    let end = put_fills(&mut calls, up + 1, block);
+    let note = Note::start(1, 70000, 8000);
+    match make_calls(note, sheet, left, right, &calls[..end], out, &mut answers) {
+        Made::Refused(number) => Answer::Refused(number),
+        Made::Calls(_, _, _) => all_sounding(&answers),
     }
-    Answer::Sounding(count)
 }

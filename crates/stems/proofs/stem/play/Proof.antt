@@ -1,105 +1,90 @@
--- Each block lies within the buffer and is not empty, so it ends; the count is at most the frames filled.
+-- The calls lie within their list.
 -- Assumes nothing.
-use Prim.Native.Nat.{_≤_, _-_}
-use mathlib.Core.Path.{_≡_}
-use lib.ListN.{length}
+use mathlib.Core.Path.{sym}
+use native.Mathlib.Omega.{arith}
+use lib.ListN.{length-set}
+use lib.Seq.{length-take-le}
 use borrow.Author.Needs.{needs}
 use Rattle.stems.proofs.stem.play.Statement.{statement}
 use Rattle.stems.proofs.stem.play.Tie as tie
 
-abbrev Inv-loop : tie.InvT-loop
-Inv-loop sheet left right block out₀ frames note₀ count₀ at₀ out note count at = (length out ≡ length out₀) × (at ≤ frames) × (count ≤ at)
+slice-aggregate-put-fills : tie.Need-slice-aggregate-put-fills
+slice-aggregate-put-fills c = search needs
 
-abbrev μ-loop : tie.MeasureT-loop
-μ-loop sheet left right block out₀ frames note₀ count₀ at₀ out note count at = frames - at
+put-fills-requires : tie.Need-put-fills-requires
+put-fills-requires c κs = search needs
 
-start-requires : tie.Need-start-requires Inv-loop μ-loop
+mul-calls : tie.Need-mul-calls
+mul-calls c = search needs
+
+array-write-calls : tie.Need-array-write-calls
+array-write-calls c = search needs
+
+slice-aggregate-put-fills-2 : tie.Need-slice-aggregate-put-fills-2
+slice-aggregate-put-fills-2 c = search needs
+
+add-put-fills : tie.Need-add-put-fills
+add-put-fills c = search needs
+
+put-fills-requires-2 : tie.Need-put-fills-requires-2
+put-fills-requires-2 c κs = (search needs, simp length-set (omega arith))
+
+start-requires : tie.Need-start-requires
 start-requires c κs = search needs
 
-loop-holds : tie.Need-loop-holds Inv-loop μ-loop
-loop-holds c = search needs
+array-share-prefix-calls : tie.Need-array-share-prefix-calls
+array-share-prefix-calls c = search needs
 
-block-end-requires : tie.Need-block-end-requires Inv-loop μ-loop
-block-end-requires c κs = search needs
+slice-aggregate-make-calls : tie.Need-slice-aggregate-make-calls
+slice-aggregate-make-calls c = sym (length-take-le _ _ (search needs))
 
-mul-from : tie.Need-mul-from Inv-loop μ-loop
-mul-from c = search needs
+slice-aggregate-make-calls-2 : tie.Need-slice-aggregate-make-calls-2
+slice-aggregate-make-calls-2 c = search needs
 
-mul-to : tie.Need-mul-to Inv-loop μ-loop
-mul-to c = search needs
+make-calls-requires : tie.Need-make-calls-requires
+make-calls-requires c κs = search needs
 
-note-at-requires : tie.Need-note-at-requires Inv-loop μ-loop
-note-at-requires c κs = search needs
+enum-known-number : tie.Need-enum-known-number
+enum-known-number c = search needs
 
-mul-fill : tie.Need-mul-fill Inv-loop μ-loop
-mul-fill c = search needs
+enum-told : tie.Need-enum-told
+enum-told c = search needs
 
-sub-fill : tie.Need-sub-fill Inv-loop μ-loop
-sub-fill c = search needs
+all-sounding-requires : tie.Need-all-sounding-requires
+all-sounding-requires c κs = search needs
 
-part-fill-start : tie.Need-part-fill-start Inv-loop μ-loop
-part-fill-start c = search needs
-
-part-fill-end : tie.Need-part-fill-end Inv-loop μ-loop
-part-fill-end c = search needs
-
-fill-requires : tie.Need-fill-requires Inv-loop μ-loop
-fill-requires c κs = search needs
-
-enum-known-answer : tie.Need-enum-known-answer Inv-loop μ-loop
-enum-known-answer c = search needs
-
-same-length : tie.Need-same-length Inv-loop μ-loop
+same-length : tie.Need-same-length
 same-length c = search needs
 
-returns : tie.Need-returns Inv-loop μ-loop
+returns : tie.Need-returns
 returns c = search needs
 
-enum-known-answer-2 : tie.Need-enum-known-answer-2 Inv-loop μ-loop
-enum-known-answer-2 c = search needs
-
-sub-with-block : tie.Need-sub-with-block Inv-loop μ-loop
-sub-with-block c = search needs
-
-with-block-requires : tie.Need-with-block-requires Inv-loop μ-loop
-with-block-requires c κs = search needs
-
-loop-less : tie.Need-loop-less Inv-loop μ-loop
-loop-less c = search needs
-
-loop-again : tie.Need-loop-again Inv-loop μ-loop
-loop-again c = search needs
-
-same-length-2 : tie.Need-same-length-2 Inv-loop μ-loop
+same-length-2 : tie.Need-same-length-2
 same-length-2 c = search needs
 
-returns-2 : tie.Need-returns-2 Inv-loop μ-loop
+returns-2 : tie.Need-returns-2
 returns-2 c = search needs
 
 pub play-spec : {M : Type 1} → statement M
 play-spec =
     tie.close
     (tie.spec
-    Inv-loop
-    μ-loop
+    slice-aggregate-put-fills
+    put-fills-requires
+    mul-calls
+    array-write-calls
+    slice-aggregate-put-fills-2
+    add-put-fills
+    put-fills-requires-2
     start-requires
-    loop-holds
-    block-end-requires
-    mul-from
-    mul-to
-    note-at-requires
-    mul-fill
-    sub-fill
-    part-fill-start
-    part-fill-end
-    fill-requires
-    enum-known-answer
+    array-share-prefix-calls
+    slice-aggregate-make-calls
+    slice-aggregate-make-calls-2
+    make-calls-requires
+    enum-known-number
+    enum-told
+    all-sounding-requires
     same-length
     returns
-    enum-known-answer-2
-    sub-with-block
-    with-block-requires
-    loop-less
-    loop-again
     same-length-2
     returns-2)
