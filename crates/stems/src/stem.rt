@@ -1,6 +1,6 @@
 // A stem: the first frames of a note, filled block by block into one buffer, left and right values by turns.
-use note::Answer;
-use note::Note;
+use voice::Answer;
+use voice::Note;
 ghost use Prim.Native.Nat.{_+_, _^_, _≤_, _<_};
 
 // How many frames come before the key-up.
