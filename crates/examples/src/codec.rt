@@ -1,26 +1,26 @@
 // Fibonacci channels both ways, BODY by halves, and the loudest sample.
-use crate::print::bytes;
-use crate::print::first_bytes;
-use crate::print::first_samples;
-use crate::print::number;
-use crate::print::refused;
-use crate::print::samples;
-use crate::print::say;
-use body_decode::decode_body;
-use fibonacci::fibonacci_decode_channel;
-use fibonacci::fibonacci_encode_channel;
-use refusal::Output;
-use samples::Loudest;
-use samples::peak;
+use print::bytes;
+use print::first_bytes;
+use print::first_samples;
+use print::number;
+use print::refused;
+use print::samples;
+use print::say;
+use voice::Loudest;
+use voice::Output;
+use voice::decode_body;
+use voice::fibonacci_decode_channel;
+use voice::fibonacci_encode_channel;
+use voice::peak;
 
 fn read(body: &[u8]) {
     say(b"reading");
-    bytes(body);
+    bytes(body, true);
     say(b" gives");
     let mut out = [0i8; 8];
     let answer = fibonacci_decode_channel(body, &mut out);
     match answer {
-        Output::Length(n) => first_samples(&out, n),
+        Output::Length(n) => first_samples(&out, n, true),
         Output::Refused(n) => refused(n),
     }
     say(b"\n");
@@ -28,12 +28,12 @@ fn read(body: &[u8]) {
 
 fn write(channel: &[i8]) {
     say(b"writing");
-    samples(channel);
+    samples(channel, true);
     say(b" gives");
     let mut out = [0u8; 8];
     let answer = fibonacci_encode_channel(channel, &mut out);
     match answer {
-        Output::Length(n) => first_bytes(&out, n),
+        Output::Length(n) => first_bytes(&out, n, true),
         Output::Refused(n) => refused(n),
     }
     say(b"\n");
@@ -41,7 +41,7 @@ fn write(channel: &[i8]) {
 
 fn body(compression: u8, channels: u16, frames: usize, all: &[u8]) {
     say(b"BODY");
-    bytes(all);
+    bytes(all, true);
     say(b", compression ");
     number(compression as u64);
     say(b", channels ");
@@ -52,7 +52,7 @@ fn body(compression: u8, channels: u16, frames: usize, all: &[u8]) {
     let mut out = [0u8; 8];
     let answer = decode_body(all, compression, channels, frames, &mut out);
     match answer {
-        Output::Length(n) => first_bytes(&out, n),
+        Output::Length(n) => first_bytes(&out, n, true),
         Output::Refused(n) => refused(n),
     }
     say(b"\n");
@@ -60,7 +60,7 @@ fn body(compression: u8, channels: u16, frames: usize, all: &[u8]) {
 
 fn loudest(channel: &[i8]) {
     say(b"loudest of");
-    samples(channel);
+    samples(channel, true);
     say(b":");
     let found = peak(channel);
     match found {

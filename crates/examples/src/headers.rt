@@ -1,18 +1,19 @@
 // Octaves, totals, volumes, pans, frequencies, channels and segments.
-use crate::print::number;
-use crate::print::refused;
-use crate::print::say;
-use crate::print::yes_or_no;
-use header::Frequency;
-use header::SampleCount;
-use header::Total;
-use header::VoiceHeader;
-use small_chunks::ChannelAssignment;
-use small_chunks::Fade;
-use small_chunks::Pan;
-use small_chunks::ParsedChannel;
-use small_chunks::SeqnSegment;
-use small_chunks::Validity;
+use print::number;
+use print::refused;
+use print::say;
+use print::yes_or_no;
+use voice::ChannelAssignment;
+use voice::Fade;
+use voice::Frequency;
+use voice::Pan;
+use voice::ParsedChannel;
+use voice::SampleCount;
+use voice::SeqnSegment;
+use voice::Total;
+use voice::Validity;
+use voice::VoiceHeader;
+use voice::volume_f32;
 
 fn header(one_shot: u32, repeat: u32, octaves: u8) -> VoiceHeader {
     VoiceHeader {
@@ -99,11 +100,11 @@ fn segment(start: u32, end: u32, hi: u64) {
 
 fn floats() {
     say(b"volume FFFFFFFF is 65536.0:");
-    yes_or_no(header_volume::volume_f32(0xFFFF_FFFF) == 65536.0);
+    yes_or_no(volume_f32(0xFFFF_FFFF) == 65536.0);
     say(b"volume 01000001 is 256.0:");
-    yes_or_no(header_volume::volume_f32(0x0100_0001) == 256.0);
+    yes_or_no(volume_f32(0x0100_0001) == 256.0);
     say(b"volume 01000003 is 256.00006103515625:");
-    yes_or_no(header_volume::volume_f32(0x0100_0003) == 256.00006103515625);
+    yes_or_no(volume_f32(0x0100_0003) == 256.00006103515625);
     let quarter = Pan { position: 16384 }.weights();
     say(b"pan 16,384 is left 0.25:");
     yes_or_no(quarter.left == 0.25);

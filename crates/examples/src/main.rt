@@ -1,7 +1,6 @@
 // Runs worked examples of the format's specification and prints what they give.
 mod codec;
 mod headers;
-mod print;
 mod sheets;
 mod texts;
 

@@ -1,12 +1,14 @@
 // Sheets judged, and their records.
-use crate::print::bytes;
-use crate::print::number;
-use crate::print::refused;
-use crate::print::say;
-use sheet::Judged;
-use sheet::RecordStep;
-use sheet::judge_sheet;
-use sheet::record_at;
+use print::bytes;
+use print::number;
+use print::refused;
+use print::say;
+use voice::Judged;
+use voice::RecordStep;
+use voice::judge_sheet;
+use voice::record_at;
+ghost use Prim.Native.Nat.{_+_, _≤_};
+ghost use lib.ListN.{length};
 
 fn judge(all: &[u8]) {
     let judged = judge_sheet(all);
@@ -26,22 +28,33 @@ fn judge_first(s: &[u8], n: usize) {
 
 fn alone(all: &[u8]) {
     say(b"sheet");
-    bytes(all);
+    bytes(all, true);
     say(b":");
     judge(all);
+}
+
+// What follows a header.
+fn put_rest(rest: &[u8], all: &mut [u8])
+    requires { ⌜ 21 + length (now rest) ≤ length (now all) ⌝ }
+{
+    let mut i = 0;
+    while i < rest.len() {
+        all[21 + i] = rest[i];
+        i += 1;
+    }
 }
 
 // A header of compression 7, the rest 0, and what follows it.
 fn after_header(rest: &[u8]) {
     say(b"sheet of a header and");
-    bytes(rest);
+    bytes(rest, true);
     say(b":");
     let mut all = [0u8; 64];
     all[0] = 1;
     all[16] = 7;
     if rest.len() <= 43 {
         let n = 21 + rest.len();
-        field::put_all(rest, &mut all, 21);
+        put_rest(rest, &mut all);
         judge_first(&all, n);
     }
 }
@@ -50,7 +63,7 @@ fn at(all: &[u8], place: usize) {
     say(b"record at ");
     number(place as u64);
     say(b" of");
-    bytes(all);
+    bytes(all, true);
     say(b":");
     let step = record_at(all, place);
     match step {

@@ -1,16 +1,17 @@
-// Text chunks cleaned, as records of the sheet.
-use crate::print::bytes;
-use crate::print::first_bytes;
-use crate::print::number;
-use crate::print::say;
+// Text chunks cleaned, as records of the sheet. The cleaning is no entry of the door, so the crate `text` is named here.
+use print::bytes;
+use print::first_bytes;
+use print::number;
+use print::say;
 use text::clean_len;
+use text::put_text;
 ghost use Prim.Native.Nat.{_≤_};
 ghost use lib.ListN.{length};
 
 // The text of a chunk under the key 1; one that cleaning leaves empty is dropped.
 fn clean(payload: &[u8]) {
     say(b"text");
-    bytes(payload);
+    bytes(payload, true);
     say(b":");
     let n = clean_len(payload);
     if n == 0 {
@@ -20,18 +21,20 @@ fn clean(payload: &[u8]) {
     say(b" ");
     number(n as u64);
     say(b" bytes, records");
-    let mut out = [0u8; 32];
     if payload.len() <= 16 {
-        write(payload, &mut out);
+        write(payload);
     }
     say(b"\n");
 }
 
-fn write(payload: &[u8], out: &mut [u8])
+fn write(payload: &[u8])
     requires { ⌜ length (now payload) ≤ 16 ⌝ }
 {
-    let end = sheet::put_text(1, payload, out, 0);
-    first_bytes(out, end);
+    let mut out = [0u8; 32];
+    out[0] = 10;
+    out[1] = 1;
+    let end = put_text(payload, &mut out, 2);
+    first_bytes(&out, end, true);
 }
 
 pub fn run() {

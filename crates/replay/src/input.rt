@@ -1,8 +1,8 @@
 // The list on standard input: a byte says what a case is, and a slice has its length before it in four bytes, big-endian.
 use libc::STDIN_FILENO;
-use refusal::Output;
-use samples::decode_raw;
-ghost use Prim.Native.Nat.{_≤_};
+use voice::Output;
+use voice::decode_raw;
+ghost use Prim.Native.Nat.{_≤_, _<_};
 ghost use lib.ListN.{length};
 
 // The next byte; 0 at the end.
@@ -12,10 +12,20 @@ pub fn byte() -> u8 {
     b[0]
 }
 
+fn wide(x: u8) -> usize
+    ensures { λ r. ⌜ r < 256 ⌝ }
+{
+    x as usize
+}
+
+fn big_endian(b: &[u8; 4]) -> usize {
+    wide(b[0]) * 16777216 + wide(b[1]) * 65536 + wide(b[2]) * 256 + wide(b[3])
+}
+
 fn length() -> usize {
     let mut b = [0u8; 4];
     io::read_full(STDIN_FILENO, &mut b);
-    field::read32(&b, 0) as usize
+    big_endian(&b)
 }
 
 // The next slice, at the front of a buffer; how long it is. One that doesn't fit is taken for empty.

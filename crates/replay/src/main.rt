@@ -1,7 +1,6 @@
 // Replays a fixed list of files and voices, and prints what the library makes of each. The list and the answers that are to come out
 // were written by tools/compare, which took the answers from the original Rust module: `compare list crates/replay`.
 mod input;
-mod print;
 mod read_case;
 mod write_case;
 

@@ -1,19 +1,22 @@
 // A file written.
 use crate::input;
-use crate::print;
-use refusal::Output;
-use voice_write::encode_voice;
+use print::first_bytes;
+use print::number;
+use print::say;
+use voice::Output;
+use voice::encode_voice;
 
 fn encode(sheet: &[u8], left: &[i8], right: &[i8]) {
     let mut file = [0u8; 4096];
     match encode_voice(sheet, left, right, &mut file) {
-        Output::Refused(number) => print::refused(number),
+        Output::Refused(n) => number(n as u64),
         Output::Length(n) => {
-            print::say(b"file");
-            print::first_bytes(&file, n);
-            print::say(b"\n");
+            say(b"file ");
+            first_bytes(&file, n, false);
+            say(b".");
         }
     }
+    say(b"\n");
 }
 
 pub fn run() {

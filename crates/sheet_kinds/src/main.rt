@@ -1,15 +1,8 @@
 // Walks three sheets record by record and prints each record's kind and its body's length, then how the walk ends.
-use libc::STDOUT_FILENO;
-use sheet::RecordStep;
-use sheet_records::read_step;
-
-fn say(text: &[u8]) {
-    io::write_all(STDOUT_FILENO, text);
-}
-
-fn number(n: u64) {
-    io::print_decimal(STDOUT_FILENO, n);
-}
+use print::number;
+use print::say;
+use voice::RecordStep;
+use voice::read_step;
 
 fn print_record(kind: u8, length: usize) {
     say(b"kind ");

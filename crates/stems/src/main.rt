@@ -5,14 +5,14 @@
 // The file `stdin` beside src/ is a looped voice of two octaves, with a pan, an attack of 80 milliseconds and a release of 100, so that
 // at 8,000 frames a second the note is over 800 frames after the key-up.
 mod compare;
-mod print;
+mod report;
 mod stem;
 
 use crate::compare::differing;
 use libc::STDIN_FILENO;
-use note::Answer;
-use voice_read::Parsed;
-use voice_read::parse_voice;
+use voice::Answer;
+use voice::Parsed;
+use voice::parse_voice;
 ghost use mathlib.Core.Path.{_≡_};
 ghost use Prim.Native.Nat.{_≤_, _<_};
 ghost use lib.ListN.{length};
@@ -38,7 +38,7 @@ fn play_file(file: &[u8]) {
     let mut left = [0i8; 1024];
     let mut right = [0i8; 1024];
     match parse_voice(file, &mut sheet, &mut left, &mut right) {
-        Parsed::Refused(number) => print::refused(number),
+        Parsed::Refused(number) => report::refused(number),
         Parsed::Voice(l) => {
             let s = smaller(l.sheet, 1024);
             let a = smaller(l.left, 1024);
@@ -52,12 +52,12 @@ fn play_file(file: &[u8]) {
 fn play_voice(sheet: &[u8], left: &[i8], right: &[i8]) {
     let mut first = [0i16; 4000];
     match stem::play(sheet, left, right, 1, &mut first) {
-        Answer::Refused(number) => print::refused(number),
+        Answer::Refused(number) => report::refused(number),
         Answer::Sounding(n) => {
-            print::frames(&first, 0);
-            print::frames(&first, 996);
-            print::frames(&first, 1796);
-            print::stem(1, &first, n);
+            report::frames(&first, 0);
+            report::frames(&first, 996);
+            report::frames(&first, 1796);
+            report::stem(1, &first, n);
             print::say(b"\n");
             play_again(sheet, left, right, 7, &first);
             play_again(sheet, left, right, 64, &first);
@@ -72,10 +72,10 @@ fn play_again(sheet: &[u8], left: &[i8], right: &[i8], block: usize, first: &[i1
 {
     let mut again = [0i16; 4000];
     match stem::play(sheet, left, right, block, &mut again) {
-        Answer::Refused(number) => print::refused(number),
+        Answer::Refused(number) => report::refused(number),
         Answer::Sounding(n) => {
-            print::stem(block, &again, n);
-            print::difference(differing(first, &again));
+            report::stem(block, &again, n);
+            report::difference(differing(first, &again));
         }
     }
 }

@@ -1,10 +1,10 @@
 // A stem: the first 2,000 frames of a note, made by one list of calls, left and right values by turns.
-use note::Answer;
-use note::Note;
-use note_calls::KEY_UP;
-use note_calls::Made;
-use note_calls::REFUSED;
-use note_calls::make_calls;
+use voice::Answer;
+use voice::Note;
+use voice::KEY_UP;
+use voice::Made;
+use voice::REFUSED;
+use voice::make_calls;
 ghost use Prim.Native.Nat.{_+_, _≤_, _<_};
 ghost use lib.ListN.{length};
 

@@ -1,10 +1,10 @@
--- `examples::print::first_bytes` is safe: the part lies within the slice.
+-- `print::first_bytes` is safe: the part lies within the slice.
 -- Assumes nothing.
 use mathlib.Core.Path.{sym}
 use lib.Seq.{length-take-le}
 use borrow.Author.Needs.{needs}
-use Rattle.examples.proofs.print.first_bytes.Statement.{statement}
-use Rattle.examples.proofs.print.first_bytes.Tie as tie
+use Rattle.print.proofs.first_bytes.Statement.{statement}
+use Rattle.print.proofs.first_bytes.Tie as tie
 
 slice-aggregate-bytes : tie.Need-slice-aggregate-bytes
 slice-aggregate-bytes c = sym (length-take-le _ _ (c .before .if1 .taken))

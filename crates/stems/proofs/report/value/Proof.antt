@@ -4,8 +4,8 @@ use native.Mathlib.Omega.{arith}
 use mir.Syntax.{w16}
 use borrow.Author.Needs.{needs}
 use Rattle.field.proofs.SignedLaws.{Complement, complement, Plain, plain}
-use Rattle.stems.proofs.print.value.Statement.{statement}
-use Rattle.stems.proofs.print.value.Tie as tie
+use Rattle.stems.proofs.report.value.Statement.{statement}
+use Rattle.stems.proofs.report.value.Tie as tie
 
 below : (c : tie.After-say2) → Complement w16 (c .before .before .before .before .before .args .v) (c .before .before .before .before .before .fits .v)
 below c =

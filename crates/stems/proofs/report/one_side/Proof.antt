@@ -3,8 +3,8 @@
 use Prim.Native.Nat.{_≤_, _+_, _-_}
 use lib.ListN.{length}
 use borrow.Author.Needs.{needs}
-use Rattle.stems.proofs.print.one_side.Statement.{statement}
-use Rattle.stems.proofs.print.one_side.Tie as tie
+use Rattle.stems.proofs.report.one_side.Statement.{statement}
+use Rattle.stems.proofs.report.one_side.Tie as tie
 
 abbrev Inv-loop : tie.InvT-loop
 Inv-loop s i₀ t3 i = i ≤ length s + 1

@@ -1,25 +1,25 @@
--- Safe, and it ends.
+-- `print::samples` is safe and ends.
 -- Assumes nothing.
 use Prim.Native.Nat.{_≤_, _-_}
-use lib.ListN.{length}
 use borrow.Author.Needs.{needs}
-use Rattle.replay.proofs.print.bytes.Statement.{statement}
-use Rattle.replay.proofs.print.bytes.Tie as tie
+use lib.ListN.{length}
+use Rattle.print.proofs.samples.Statement.{statement}
+use Rattle.print.proofs.samples.Tie as tie
 
 abbrev Inv-loop : tie.InvT-loop
-Inv-loop s i₀ i = i ≤ length s
+Inv-loop s spaced i₀ i = i ≤ length s
 
 abbrev μ-loop : tie.MeasureT-loop
-μ-loop s i₀ i = length s - i
+μ-loop s spaced i₀ i = length s - i
 
 loop-holds : tie.Need-loop-holds Inv-loop μ-loop
 loop-holds c = search needs
 
-shared-slice-read-byte : tie.Need-shared-slice-read-byte Inv-loop μ-loop
-shared-slice-read-byte c = search needs
+shared-slice-copy-out-one-sample : tie.Need-shared-slice-copy-out-one-sample Inv-loop μ-loop
+shared-slice-copy-out-one-sample c = search needs
 
-byte-requires : tie.Need-byte-requires Inv-loop μ-loop
-byte-requires c κs = search needs
+one-sample-requires : tie.Need-one-sample-requires Inv-loop μ-loop
+one-sample-requires c κs = search needs
 
 add-i : tie.Need-add-i Inv-loop μ-loop
 add-i c = search needs
@@ -33,15 +33,15 @@ loop-again c = search needs
 returns : tie.Need-returns Inv-loop μ-loop
 returns c = search needs
 
-pub bytes-spec : {M : Type 1} → statement M
-bytes-spec =
+pub samples-spec : {M : Type 1} → statement M
+samples-spec =
     tie.close
     (tie.spec
     Inv-loop
     μ-loop
     loop-holds
-    shared-slice-read-byte
-    byte-requires
+    shared-slice-copy-out-one-sample
+    one-sample-requires
     add-i
     loop-less
     loop-again

@@ -1,16 +1,8 @@
-// Printing.
-use libc::STDOUT_FILENO;
+// A stem in print.
+use print::number;
+use print::say;
 ghost use Prim.Native.Nat.{_+_, _*_, _≤_};
 ghost use lib.ListN.{length};
-
-pub fn say(text: &[u8]) {
-    io::write_all(STDOUT_FILENO, text);
-}
-
-fn number(n: usize) {
-    let n = n as u64;
-    io::print_decimal(STDOUT_FILENO, n);
-}
 
 // A space and a value.
 fn value(v: i16) {
@@ -18,11 +10,11 @@ fn value(v: i16) {
     if v < 0 {
         say(b"-");
         let below = (!v) as u16;
-        number(below as usize + 1);
+        number(below as u64 + 1);
         return;
     }
     let n = v as u16;
-    number(n as usize);
+    number(n as u64);
 }
 
 // Every second value, from the first on.
@@ -43,9 +35,9 @@ pub fn frames(stem: &[i16], first: usize)
     let to = from + 16;
     let right = from + 1;
     say(b"frames ");
-    number(first);
+    number(first as u64);
     say(b" to ");
-    number(first + 7);
+    number(first as u64 + 7);
     say(b"\n  left ");
     one_side(&stem[from..to]);
     say(b"  right");
@@ -55,23 +47,22 @@ pub fn frames(stem: &[i16], first: usize)
 // How many frames a stem has, and how many of them aren't over.
 pub fn stem(block: usize, values: &[i16], sounding: usize) {
     say(b"blocks of ");
-    number(block);
+    number(block as u64);
     say(b": ");
-    number(values.len() / 2);
+    number(values.len() as u64 / 2);
     say(b" frames, ");
-    number(sounding);
+    number(sounding as u64);
     say(b" not over");
 }
 
 pub fn difference(n: usize) {
     say(b", ");
-    number(n);
+    number(n as u64);
     say(b" values differ from the first stem\n");
 }
 
 pub fn refused(n: u8) {
-    let n = n as usize;
     say(b"refused by ");
-    number(n);
+    number(n as u64);
     say(b"\n");
 }

@@ -1,10 +1,10 @@
--- `examples::print::first_samples` is safe: the part lies within the slice.
+-- `print::first_samples` is safe: the part lies within the slice.
 -- Assumes nothing.
 use mathlib.Core.Path.{sym}
 use lib.Seq.{length-take-le}
 use borrow.Author.Needs.{needs}
-use Rattle.examples.proofs.print.first_samples.Statement.{statement}
-use Rattle.examples.proofs.print.first_samples.Tie as tie
+use Rattle.print.proofs.first_samples.Statement.{statement}
+use Rattle.print.proofs.first_samples.Tie as tie
 
 slice-aggregate-samples : tie.Need-slice-aggregate-samples
 slice-aggregate-samples c = sym (length-take-le _ _ (c .before .if1 .taken))
