@@ -1,8 +1,8 @@
 // A stem: the first 2,000 frames of a note, made by one list of calls, left and right values by turns.
 use voice::Answer;
-use voice::Note;
 use voice::KEY_UP;
 use voice::Made;
+use voice::Note;
 use voice::REFUSED;
 use voice::make_calls;
 ghost use Prim.Native.Nat.{_+_, _≤_, _<_};
