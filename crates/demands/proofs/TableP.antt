@@ -4,7 +4,6 @@ use mathlib.Core.Path.{refl, ap}
 use Rattle.refusal.specs.Outcome.{gives}
 use Rattle.refusal.specs.Rules.{firstHolding}
 use Rattle.header.specs.Octaves.{totalSamples}
-use Rattle.header.proofs.OctaveLaws as octaves
 use Rattle.small_chunks.specs.Pan.{heldToUnity}
 use Rattle.envelope.specs.Level.{scaledBy, onTheWay}
 use Rattle.envelope.specs.Envelope.{levelAt}
@@ -33,8 +32,8 @@ tableP = record {
   on-the-way = refl;
   at-its-end = refl;
   on-the-way-down = refl;
-  largest-total = octaves.largest-total;
-  octave-past-it = octaves.octave-past-it;
+  largest-total = refl;
+  octave-past-it = refl;
   all-full = refl;
   whole-file-read = demand2 .example-read;
   whole-file-written = demand2 .example-written;

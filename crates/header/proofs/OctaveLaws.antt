@@ -89,28 +89,6 @@ module _ (h : VoiceHeader) (n f : ℕ) (first : n ≡ hi h) (second : f ≡ 2 ^ 
   pub no-room : (2 ^ 64 - 1) / f < n → 2 ^ 64 ≤ totalSamples h
   no-room l = omega (arith, div-lt-iff-lt-mul {x = 2 ^ 64 - 1} factor-pos .0 l, product)
 
--- ---- the largest total, and the octave past it
-
--- one sample in the highest of n octaves
-abbrev oneSample : ℕ → VoiceHeader
-oneSample n = record {
-  «one_shot_hi_samples» = 1;
-  «repeat_hi_samples» = 0;
-  «samples_per_hi_cycle» = 0;
-  «samples_per_sec» = 0;
-  «ct_octave» = n;
-  «compression_byte» = 0;
-  volume = 0;
-}
-
-pub largest-total : total (oneSample 64) ≡ Sum (2 ^ 64 - 1)
-unfolding totalSamples
-largest-total = refl
-
-pub octave-past-it : total (oneSample 65) ≡ Refused 13
-unfolding totalSamples
-octave-past-it = refl
-
 -- the total, where it is one
 pub total-is : (h : VoiceHeader) (n : ℕ) → total h ≡ Sum n → (totalSamples h < 2 ^ 64) × (totalSamples h ≡ n)
 total-is h n = go (ltb (totalSamples h) (2 ^ 64)) refl
