@@ -75,7 +75,9 @@ items-within items a =
     unless-zero readingNumbers (Within readingNumbers) (firstBad items) (all-of (0 ∷ readingNumbers) (0 ∷ chunkNumbers) tt (firstBad items) a)
     (chunk-within noHeader (firstOf vhdr items) _ (one-of readingNumbers noHeader tt) (λ header.
     chunk-within noBody (firstOf body items) _ (one-of readingNumbers noBody tt) (λ bytes.
-    then-within readingNumbers (bodySides (v .header) (isStereo (v .channel)) bytes) _ (widened (bodySides (v .header) (isStereo (v .channel)) bytes) (sides-within (v .header) (isStereo (v .channel)) bytes)) (λ sides. tt))))
+    let stereo = isStereo (v .channel) in
+    let sides = bodySides (v .header) stereo bytes in
+    then-within readingNumbers sides _ (widened sides (sides-within (v .header) stereo bytes)) (λ made. tt))))
     (λ refused. refused)
 
 head-number : (file : List ℕ) → Among (headRefusal file) (0 ∷ readingNumbers)

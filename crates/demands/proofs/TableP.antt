@@ -20,7 +20,8 @@ use Rattle.demands.specs.TableP.{TableP}
 use Rattle.demands.proofs.Demand2.{demand2}
 
 pub tableP : TableP
-unfolding levelAt onTheWay scaledBy value fadedAt sharesOf reckonFrom fillVoice firstHolding fillRules totalSamples lengthsSuit allValid joinedLength framesFrom interleaved sounding frame frameAt pathOf loopPath levelOf attackLevel heldToUnity
+unfolding levelAt onTheWay scaledBy value fadedAt sharesOf reckonFrom fillVoice firstHolding fillRules totalSamples lengthsSuit
+    allValid joinedLength framesFrom interleaved sounding frame frameAt pathOf loopPath levelOf attackLevel heldToUnity
 tableP = record {
   up-and-down = ap gives fibonacci.rises;
   held-above = ap gives fibonacci.held-high;

@@ -74,7 +74,8 @@ module _ (h : VoiceHeader) (k n : ℕ) where
 -- ---- the sequence and its fade
 
 -- a fade's segment is among those of a sequence
-fade-among : (fade : Option Fade) (sequence : Option (List SeqnSegment)) (k : ℕ) → fadeMisses fade (length (segmentsOf sequence)) ≡ false → joinedLength (2 ^ k) (segmentsOf sequence) < 2 ^ 32 → FadeOn fade sequence k
+fade-among : (fade : Option Fade) (sequence : Option (List SeqnSegment)) (k : ℕ) → fadeMisses fade (length (segmentsOf sequence)) ≡ false
+    → joinedLength (2 ^ k) (segmentsOf sequence) < 2 ^ 32 → FadeOn fade sequence k
 fade-among none sequence k among short = tt
 fade-among (some f) (some segments) k among short = short
 fade-among (some f) none k among short = absurd (omega (arith, ltb-true (f .segment) 0 (not-false (ltb (f .segment) 0) among)))

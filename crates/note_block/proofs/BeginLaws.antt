@@ -55,7 +55,8 @@ module _ (n : Playing) (frames places : ℕ) (sheet : List ℕ) (l : Layout) (le
           ∙ ap (λ (h : VoiceHeader). pathOf (sequenceIn there (between (l .sequence) (l .fade) sheet)) h (length left) (n .octave) q) header
           ∙ ap (λ (o : Option (List SeqnSegment)). pathOf o (readSheet sheet .header) (length left) (n .octave) q) (sequence-is sheet bytes sound l is answer there answered told)
 
-      pub block-ready : (g : Gains) (d : ℕ) (out : List ℤ) → g ≡ gainsOf (readSheet sheet) (n .octave) → frames ≤ 4294967295 → d ≡ min (length out / 2) (4294967295 - frames) → BlockReady n frames sheet l g path left right d out
+      pub block-ready : (g : Gains) (d : ℕ) (out : List ℤ) → g ≡ gainsOf (readSheet sheet) (n .octave) → frames ≤ 4294967295
+          → d ≡ min (length out / 2) (4294967295 - frames) → BlockReady n frames sheet l g path left right d out
       block-ready g d out gains-are counted part =
           rw gains-are
           (record {

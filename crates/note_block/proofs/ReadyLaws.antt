@@ -76,11 +76,12 @@ module _ (n : Playing) (frames : ℕ) (sheet : List ℕ) (l : Layout) (g : Gains
     pub held-asks : Playable g path s attack segments left right frames d out
     held-asks = rw e (stage-asks (attackStage attack (n .step) (n .rate)) attack refl refl (omega arith) (attacks-are sheet bytes (ready .sound) l (ready .layout-is) .1))
 
-    pub held-plays : (after : List ℤ) (count : ℕ) → n .key ≡ Held → Played (stageFrame g path s attack segments left right) frames d out after count → BlockPlayed n frames sheet left right d out after count
+    pub held-plays : (after : List ℤ) (count : ℕ) → n .key ≡ Held → Played (stageFrame g path s attack segments left right) frames d out after count
+        → BlockPlayed n frames sheet left right d out after count
     held-plays after count key =
-        rw e
-        (stage-plays (attackStage attack (n .step) (n .rate)) attack Held after count key
-        (λ p a b. held-frame (readSheet sheet) n left right g path (sequencePart sheet) (ready .gains-are) (ready .place-is) attack (attacks-are sheet bytes (ready .sound) l (ready .layout-is) .0) p b))
+        let points = attacks-are sheet bytes (ready .sound) l (ready .layout-is) .0 in
+        let frames-are = held-frame (readSheet sheet) n left right g path (sequencePart sheet) (ready .gains-are) (ready .place-is) attack points in
+        rw e (stage-plays (attackStage attack (n .step) (n .rate)) attack Held after count key (λ p a b. frames-are p b))
 
   -- ---- released
 

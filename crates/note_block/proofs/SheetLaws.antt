@@ -45,7 +45,8 @@ module _ (sheet : List ℕ) (bytes : (i : ℕ) → Fits w8 (getD sheet i 0)) (so
   segments-at = ap (λ (l : Layout). between (l .sequence) (l .fade) sheet) is
 
   -- what the code's answers say
-  pub sequence-is : (answer : MaybeSequence) (there : Bool) → answer ≡ sequenceAnswer (readSheet sheet .sequence) → there ≡ isThere answer → sequenceIn there (between (l .sequence) (l .fade) sheet) ≡ readSheet sheet .sequence
+  pub sequence-is : (answer : MaybeSequence) (there : Bool) → answer ≡ sequenceAnswer (readSheet sheet .sequence) → there ≡ isThere answer
+      → sequenceIn there (between (l .sequence) (l .fade) sheet) ≡ readSheet sheet .sequence
   sequence-is answer there e t =
       ap (λ (b : Bool). sequenceIn b (between (l .sequence) (l .fade) sheet)) (t ∙ ap isThere e) ∙ go (readSheet sheet .sequence) (part-segments sheet bytes sound l is)
     where

@@ -31,18 +31,21 @@ attack-in v rate attack e p = rw (attack-is v rate p, e)
 module _ (v : Voice) (n : Playing) (left right : List ℤ) (g : Gains) (path : Path) (segments : List ℕ) (gains-are : g ≡ gainsOf v (n .octave))
     (place-is : (q : ℕ) → placeOf path segments q ≡ pathOf (v .sequence) (v .header) (length left) (n .octave) q) where
   -- a stage whose level is the note's
-  stage-frame : (s : Stage) (points : List ℕ) (key : Key) (p : ℕ) → s .step ≡ n .step → p < 4294967295 → stageLevel points (s .level) (s .ends) (msSince (s .rate) (s .since) p) ≡ levelOf v (n .rate) key p
+  stage-frame : (s : Stage) (points : List ℕ) (key : Key) (p : ℕ) → s .step ≡ n .step → p < 4294967295
+      → stageLevel points (s .level) (s .ends) (msSince (s .rate) (s .since) p) ≡ levelOf v (n .rate) key p
       → stageFrame g path s points segments left right p ≡ frame v (record { left = left; right = right }) (withKey n key) p
   stage-frame s points key p es h e =
       rw (stage-frame-is g path s points segments left right p, frame-is v (record { left = left; right = right }) (withKey n key) p h, gains-are, es, e, place-is (stepOf (n .step) p))
 
   module _ (attack : List ℕ) (attack-are : pointsIn attack ≡ joined (v .attacks)) where
-    pub held-frame : (p : ℕ) → p < 4294967295 → stageFrame g path (attackStage attack (n .step) (n .rate)) attack segments left right p ≡ frame v (record { left = left; right = right }) (withKey n Held) p
+    pub held-frame : (p : ℕ) → p < 4294967295
+        → stageFrame g path (attackStage attack (n .step) (n .rate)) attack segments left right p ≡ frame v (record { left = left; right = right }) (withKey n Held) p
     held-frame p h =
         stage-frame (attackStage attack (n .step) (n .rate)) attack Held p refl h
         (stage-held attack (startLevel (pointsIn attack)) _ (msSince (n .rate) 0 p) refl ∙ ap some (attack-in v (n .rate) attack attack-are p) ∙ sym (level-held v (n .rate) p))
 
-    pub released-frame : (release : List ℕ) → pointsIn release ≡ joined (v .releases) → (u p : ℕ) → u ≤ p → p < 4294967295 → stageFrame g path (releaseStage attack (n .step) (n .rate) u) release segments left right p ≡ frame v (record { left = left; right = right }) (withKey n (Released u)) p
+    pub released-frame : (release : List ℕ) → pointsIn release ≡ joined (v .releases) → (u p : ℕ) → u ≤ p → p < 4294967295
+        → stageFrame g path (releaseStage attack (n .step) (n .rate) u) release segments left right p ≡ frame v (record { left = left; right = right }) (withKey n (Released u)) p
     released-frame release release-are u p g h =
         stage-frame (releaseStage attack (n .step) (n .rate) u) release (Released u) p refl h
         (stage-ends release (pos (attackIn attack (n .rate) u)) _ (msSince (n .rate) u p) refl ∙ rw (release-are, attack-in v (n .rate) attack attack-are u, level-released v (n .rate) u p g))

@@ -71,7 +71,9 @@ module _ {part : List ℕ} {t at₀ before₀ : ℕ} {level₀ : ℤ} {at before
   point-long here = member-long 6 6 part at here (p .place .stands here) (p .place .whole)
 
   -- one point more
-  pub passed-more : (point : EgPoint) (dest : ℤ) (next : ℕ) → at < length part → point ≡ pointOf (drop (at + 1) part) → dest ≡ point .dest → point .«duration_ms» ≤ t - before → next ≡ nextMember 6 (at + 7) part → Passed part t at₀ before₀ level₀ next (before + point .«duration_ms») dest
+  pub passed-more : (point : EgPoint) (dest : ℤ) (next : ℕ) → at < length part → point ≡ pointOf (drop (at + 1) part) → dest ≡ point .dest
+      → point .«duration_ms» ≤ t - before → next ≡ nextMember 6 (at + 7) part
+      → Passed part t at₀ before₀ level₀ next (before + point .«duration_ms») dest
   passed-more point dest next here read d ended is =
       let k = p .passed in
       let stands = p .place .stands here in
@@ -88,22 +90,28 @@ module _ {part : List ℕ} {t at₀ before₀ : ℕ} {level₀ : ℤ} {at before
       }
 
 -- what a loop that stops at a place hands back
-module _ (part : List ℕ) (e : EnvelopeCursor) (t at₀ at before : ℕ) (level : ℤ) (now : ℕ) (fits : SFits w32 (e .level)) (from : at₀ ≡ nextMember 6 (e .at) part) (p : Passed part t at₀ (e .before) (toZ w32 (ofZ w32 (e .level))) at before level) where
-  stopped : (ended : Bool) → now ≡ heldToUnity (levelFrom part at before level t) → ended ≡ leb (endFrom part at before) t → Moved part e t (record { at = at; before = before; level = level; ms = t; now = now; ended = ended })
+module _ (part : List ℕ) (e : EnvelopeCursor) (t at₀ at before : ℕ) (level : ℤ) (now : ℕ) (fits : SFits w32 (e .level))
+    (from : at₀ ≡ nextMember 6 (e .at) part) (p : Passed part t at₀ (e .before) (toZ w32 (ofZ w32 (e .level))) at before level) where
+  level-later : (s : ℕ) → t ≤ s → levelFrom part at before level s ≡ levelFrom part (e .at) (e .before) (e .level) s
+  level-later s h = rw (toZ-ofZ fits, from) at (p .later s h) ∙ level-next part (e .at) (e .before) (e .level) s
+
+  stopped : (ended : Bool) → now ≡ heldToUnity (levelFrom part at before level t) → ended ≡ leb (endFrom part at before) t
+      → Moved part e t (record { at = at; before = before; level = level; ms = t; now = now; ended = ended })
   stopped ended n d =
-      let later : (s : ℕ) → t ≤ s → levelFrom part at before level s ≡ levelFrom part (e .at) (e .before) (e .level) s = λ s h. rw (toZ-ofZ fits, from) at (p .later s h) ∙ level-next part (e .at) (e .before) (e .level) s in
       let end-is : endFrom part at before ≡ endFrom part (e .at) (e .before) = rw from at (p .end-is) ∙ end-next part (e .at) (e .before) in
       record {
         at-is = refl;
-        now-is = n ∙ ap heldToUnity (later t (omega arith));
+        now-is = n ∙ ap heldToUnity (level-later t (omega arith));
         ended-is = d ∙ ap (λ (x : ℕ). leb x t) end-is;
         ready = record { inside = p .place .inside; whole = p .place .whole; passed = p .passed };
         end-is = end-is;
-        later = later;
+        later = level-later;
       }
 
   -- on the way
-  pub stopped-way : (point : EgPoint) (dest : ℤ) → at < length part → point ≡ pointOf (drop (at + 1) part) → dest ≡ point .dest → t - before < point .«duration_ms» → now ≡ heldToUnity (onTheWay level dest (t - before) (point .«duration_ms»)) → Moved part e t (record { at = at; before = before; level = level; ms = t; now = now; ended = false })
+  pub stopped-way : (point : EgPoint) (dest : ℤ) → at < length part → point ≡ pointOf (drop (at + 1) part) → dest ≡ point .dest
+      → t - before < point .«duration_ms» → now ≡ heldToUnity (onTheWay level dest (t - before) (point .«duration_ms»))
+      → Moved part e t (record { at = at; before = before; level = level; ms = t; now = now; ended = false })
   stopped-way point dest here read d h n =
       let stands = p .place .stands here in
       stopped false (n ∙ rw (d, level-way part at before point here stands read level t h)) (sym (lt-leb (endFrom part at before) t (omega (arith, end-way part at before point here stands read))))
@@ -129,7 +137,8 @@ stays part e t s q =
     }
 
 -- the cursor at the front
-pub begun : (part : List ℕ) (start : ℤ) (t ms now : ℕ) (ended : Bool) (r : EnvelopeCursor) → Moved part (record { at = 0; before = 0; level = start; ms = ms; now = now; ended = ended }) t r → Follows part start t r
+pub begun : (part : List ℕ) (start : ℤ) (t ms now : ℕ) (ended : Bool) (r : EnvelopeCursor)
+    → Moved part (record { at = 0; before = 0; level = start; ms = ms; now = now; ended = ended }) t r → Follows part start t r
 begun part start t ms now ended r m =
     record {
       at-is = m .at-is;

@@ -104,7 +104,10 @@ unfolding segmentsPath joinedLength
 path-ends first scale [] q i e = impossible cc
 path-ends first scale (s ∷ ss) q i e = go (path-ends first scale ss (q - segmentLength s * scale) i) (ltb q (segmentLength s * scale)) refl e
   where
-    go : (segmentsPath first scale ss (q - segmentLength s * scale) ≡ some i → q - segmentLength s * scale < joinedLength scale ss) → (t : Bool) → ltb q (segmentLength s * scale) ≡ t → cond t (some (first + s .start * scale + q)) (segmentsPath first scale ss (q - segmentLength s * scale)) ≡ some i → q < segmentLength s * scale + joinedLength scale ss
+    go : (segmentsPath first scale ss (q - segmentLength s * scale) ≡ some i → q - segmentLength s * scale < joinedLength scale ss) → (t : Bool)
+        → ltb q (segmentLength s * scale) ≡ t
+        → cond t (some (first + s .start * scale + q)) (segmentsPath first scale ss (q - segmentLength s * scale)) ≡ some i
+        → q < segmentLength s * scale + joinedLength scale ss
     go later true t e = omega (arith, ltb-true q (segmentLength s * scale) t)
     go later false t e = omega (arith, ltb-false q (segmentLength s * scale) t, later e)
 

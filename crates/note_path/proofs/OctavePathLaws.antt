@@ -69,10 +69,23 @@ module _ (h : VoiceHeader) (k : ℕ) (sequence : Bool) (samples : ℕ) (part : L
     pub octave-fits : n * (scale - 1) + (h .«one_shot_hi_samples» * scale + h .«repeat_hi_samples» * scale) ≤ samples
     octave-fits = rw (← add-mul (h .«one_shot_hi_samples») (h .«repeat_hi_samples») scale, ne, e) (o .octave-within)
 
-    pub path-some : (n ≡ 0 → ⊥) → PathIs h k sequence samples part (record { first = n * (scale - 1); scale = scale; «one_shot» = h .«one_shot_hi_samples» * scale; repeat = h .«repeat_hi_samples» * scale; samples = samples; sequence = sequence })
+    pub path-some : (n ≡ 0 → ⊥)
+        → PathIs h k sequence samples part (record {
+          first = n * (scale - 1);
+          scale = scale;
+          «one_shot» = h .«one_shot_hi_samples» * scale;
+          repeat = h .«repeat_hi_samples» * scale;
+          samples = samples;
+          sequence = sequence;
+        })
     path-some nz =
         record {
-          sane = record { small = o .samples-small; looped = octave-fits; segments = order-within (n * (scale - 1)) scale samples (hi h) (segmentsIn part) (o .in-order) (rw (ne, e) (o .octave-within)); whole = w };
+          sane = record {
+            small = o .samples-small;
+            looped = octave-fits;
+            segments = order-within (n * (scale - 1)) scale samples (hi h) (segmentsIn part) (o .in-order) (rw (ne, e) (o .octave-within));
+            whole = w;
+          };
           samples-are = refl;
           place-is = same-place _ refl refl (rw (ne, e)) (λ q. rw (ne, e) (sym (path-loop h samples k q (λ z. nz (ne ∙ z)))));
         }

@@ -32,7 +32,8 @@ use Rattle.note_stage.specs.declared.Stage.{Stage}
 -- ---- a stage
 
 pub stage-frame-is : (g : Gains) (path : Path) (s : Stage) (points segments : List ℕ) (left right : List ℤ) (p : ℕ)
-    → stageFrame g path s points segments left right p ≡ frameWith g left right (stepOf (s .step) p) (placeOf path segments (stepOf (s .step) p)) (stageLevel points (s .level) (s .ends) (msSince (s .rate) (s .since) p))
+    → stageFrame g path s points segments left right p
+    ≡ frameWith g left right (stepOf (s .step) p) (placeOf path segments (stepOf (s .step) p)) (stageLevel points (s .level) (s .ends) (msSince (s .rate) (s .since) p))
 unfolding stageFrame
 stage-frame-is g path s points segments left right p = refl
 

@@ -37,7 +37,8 @@ use Rattle.note_frame.proofs.FramesLaws.{frames-length, interleaved-length, int
 prefix-sets : {A : Type 0} (p before xs : List A) (k : ℕ) → length p ≡ k → k + length xs ≤ length before → sets (p ++ drop k before) k xs ≡ p ++ xs ++ drop (k + length xs) before
 prefix-sets p before xs k e h =
     let room : k + length xs ≤ length (p ++ drop k before) = rw (length-append, length-drop) (omega arith) in
-    let past : drop (k + length xs) (p ++ drop k before) ≡ drop (length xs) (drop k before) = subst (λ (n : ℕ). drop (n + length xs) (p ++ drop k before) ≡ drop (length xs) (drop k before)) e (drop-append-add p (drop k before) (length xs)) in
+    let Past : ℕ → Type 0 = λ n. drop (n + length xs) (p ++ drop k before) ≡ drop (length xs) (drop k before) in
+    let past : Past k = subst Past e (drop-append-add p (drop k before) (length xs)) in
     sets-eq xs (p ++ drop k before) k room ∙ rw (take-at p (drop k before) k e, past, drop-drop (length xs) k before)
 
 -- a bool as a number
@@ -106,7 +107,9 @@ pub record Cursors (path : Path) (s : Stage) (points segments : List ℕ) (p t :
   pub run-then : r .from ≤ stepOf (s .step) p
   pub place-is : place ≡ p * s .step
 
-pub cursors-start : (path : Path) (s : Stage) (points segments : List ℕ) (m : ℕ) (e : EnvelopeCursor) (r : Run) → Follows points (s .level) (msSince (s .rate) (s .since) m) e → Good path segments r → r .from ≤ 0 → Cursors path s points segments (m + 0) (1000 * (m - s .since)) e r (m * s .step)
+pub cursors-start : (path : Path) (s : Stage) (points segments : List ℕ) (m : ℕ) (e : EnvelopeCursor) (r : Run)
+    → Follows points (s .level) (msSince (s .rate) (s .since) m) e → Good path segments r → r .from ≤ 0
+    → Cursors path s points segments (m + 0) (1000 * (m - s .since)) e r (m * s .step)
 cursors-start path s points segments m e r f g z =
     rw (add-zero m)
     (record {
@@ -123,7 +126,8 @@ module _ {path : Path} {s : Stage} {points segments : List ℕ} {p t : ℕ} {e :
   pub level-here : (e′ : EnvelopeCursor) → Moved points e (t / s .rate) e′ → Follows points (s .level) (msSince (s .rate) (s .since) p) e′
   level-here e′ v = follow (u .level) (u .level-then) (rw (u .time-is) at v)
 
-  pub cursors-more : (e′ : EnvelopeCursor) (r′ : Run) → 0 < s .rate → s .since ≤ p → Moved points e (t / s .rate) e′ → Reached path segments (place / 65536) r′ → Cursors path s points segments (p + 1) (t + 1000) e′ r′ (place + s .step)
+  pub cursors-more : (e′ : EnvelopeCursor) (r′ : Run) → 0 < s .rate → s .since ≤ p → Moved points e (t / s .rate) e′
+      → Reached path segments (place / 65536) r′ → Cursors path s points segments (p + 1) (t + 1000) e′ r′ (place + s .step)
   cursors-more e′ r′ z h v w =
       let f = level-here e′ v in
       let more : (p + 1) * s .step ≡ p * s .step + s .step = add-mul p 1 (s .step) ∙ ap (λ (x : ℕ). p * s .step + x) (one-mul (s .step)) in

@@ -45,10 +45,13 @@ module _ (v : sheet.Voice) (bytes : List ℕ) where
       go (gives s) e = impossible cc
       go (refuses k) e = let same : k ≡ number = cc in ap Refused (sym same)
 
-  pub needed-gives : (n left right : ℕ) → n ≡ length (flat v) → sideLengthsOf (bodySides (v .header) (isStereo (v .channel)) bytes) ≡ count.Lengths left right → Voice (record { sheet = n; left = left; right = right }) ≡ neededBy (withSides v bytes)
+  pub needed-gives : (n left right : ℕ) → n ≡ length (flat v)
+      → sideLengthsOf (bodySides (v .header) (isStereo (v .channel)) bytes) ≡ count.Lengths left right
+      → Voice (record { sheet = n; left = left; right = right }) ≡ neededBy (withSides v bytes)
   needed-gives n left right same = go (bodySides (v .header) (isStereo (v .channel)) bytes)
     where
-      go : (o : Outcome Sides) → sideLengthsOf o ≡ count.Lengths left right → Voice (record { sheet = n; left = left; right = right }) ≡ neededBy (andThen o (λ s. gives (record { voice = v; sides = s })))
+      go : (o : Outcome Sides) → sideLengthsOf o ≡ count.Lengths left right
+          → Voice (record { sheet = n; left = left; right = right }) ≡ neededBy (andThen o (λ s. gives (record { voice = v; sides = s })))
       go (gives s) e =
           let l : length (s .left) ≡ left = cc in
           let r : length (s .right) ≡ right = cc in

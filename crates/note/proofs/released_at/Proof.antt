@@ -17,7 +17,10 @@ returns : tie.Need-returns
 returns c = let a = c .before .before .args in sym (ap (λ (k : Key). keyAfter k (a .frame)) (c .enum-told .given .1))
 
 returns-2 : tie.Need-returns-2
-returns-2 c = let a = c .before .before .before .args in sym (ap (λ (k : Key). keyAfter k (a .frame)) (c .before .key .given .1))
+returns-2 c =
+    let read = c .before in
+    let a = read .before .before .args in
+    sym (ap (λ (k : Key). keyAfter k (a .frame)) (read .key .given .1))
 
 pub released-at-spec : {M : Type 1} → statement M
 released-at-spec = tie.close (tie.spec enum-told enum-known-key returns returns-2)

@@ -31,6 +31,16 @@ module _ (c : tie.After-shared-slice-known) where
   small : length (start .args .left .now) < 2 ^ 63
   small = search needs
 
+-- where the sheet is known, where the path is made, and where its frames are played
+abbrev known : tie.After-sheet-header → tie.After-shared-slice-known
+known c = c .before .before .before .before
+
+abbrev path-made : tie.After-play-stage-arg → tie.After-path-of
+path-made c = c .before .before .before
+
+abbrev played : tie.After-out2 → tie.After-play-stage
+played c = c .before .before .before .before
+
 sub-segments : tie.Need-sub-segments
 sub-segments c = places c .2
 
@@ -51,15 +61,20 @@ sheet-header-requires c κs = search needs
 
 path-of-requires : tie.Need-path-of-requires
 path-of-requires c κs =
-    let k = c .before .before .before .before in
+    let k = known c in
     let s = start k in
-    path-asks (s .args .n) (s .args .frames) (length (s .args .out .now)) (s .args .sheet .now) (s .args .l) (s .args .left .now) (s .args .right .now) (bytes k) (s .pre .0) (s .pre .1) (s .pre .2) (small k) _ (c .sheet-header .ensures)
+    let a = s .args in
+    path-asks (a .n) (a .frames) (length (a .out .now)) (a .sheet .now) (a .l) (a .left .now) (a .right .now)
+    (bytes k) (s .pre .0) (s .pre .1) (s .pre .2) (small k) _ (c .sheet-header .ensures)
 
 gains-of-requires : tie.Need-gains-of-requires
 gains-of-requires c κs =
-    let k = c .before .before .before .before .before in
+    let k = known (c .before) in
     let s = start k in
-    let g = gains-ask (s .args .n) (s .args .frames) (length (s .args .out .now)) (s .args .sheet .now) (s .args .l) (s .args .left .now) (s .args .right .now) (bytes k) (s .pre .0) (s .pre .1) (s .pre .2) (small k) in
+    let a = s .args in
+    let g =
+    gains-ask (a .n) (a .frames) (length (a .out .now)) (a .sheet .now) (a .l) (a .left .now) (a .right .now)
+    (bytes k) (s .pre .0) (s .pre .1) (s .pre .2) (small k) in
     (s .pre .0, s .pre .1, g .0, g .1)
 
 sub-room : tie.Need-sub-room
@@ -70,12 +85,15 @@ least-requires c κs = search needs
 
 play-stage-requires : tie.Need-play-stage-requires
 play-stage-requires c κs =
-    let p = c .before .before .before in
-    let k = p .before .before .before .before .before in
+    let p = path-made c in
+    let k = known (p .before) in
     let s = start k in
-    let counted : s .args .frames ≤ 4294967295 = omega (arith, s .fits .frames) in
-    block-ready (s .args .n) (s .args .frames) (length (s .args .out .now)) (s .args .sheet .now) (s .args .l) (s .args .left .now) (s .args .right .now) (bytes k) (s .pre .0) (s .pre .1) (s .pre .2) (small k)
-    _ (p .before .sheet-header .ensures) _ _ _ (p .before .before .before .sheet-sequence .ensures) (p .before .before .is-there .ensures) (p .path-of .ensures)
+    let a = s .args in
+    let counted : a .frames ≤ 4294967295 = omega (arith, s .fits .frames) in
+    let there = p .before .before in
+    block-ready (a .n) (a .frames) (length (a .out .now)) (a .sheet .now) (a .l) (a .left .now) (a .right .now)
+    (bytes k) (s .pre .0) (s .pre .1) (s .pre .2) (small k)
+    _ (p .before .sheet-header .ensures) _ _ _ (there .before .sheet-sequence .ensures) (there .is-there .ensures) (p .path-of .ensures)
     _ _ _ (c .before .before .gains-of .ensures) counted (c .before .least .ensures)
 
 mul-silence-from : tie.Need-mul-silence-from
@@ -89,17 +107,17 @@ same-length c = search needs
 
 returns : tie.Need-returns
 returns c =
-    let p = c .before .before .before .before in
+    let p = played c in
     let n = p .before .before in
-    let k = n .before .before .before .before .before .before .before in
-    let s = start k in
+    let s = start (known (path-made (p .before) .before)) in
     let a = s .args in
     let counted : a .frames ≤ 4294967295 = omega (arith, s .fits .frames) in
-    let even : length (a .out .now) % 2 ≡ 0 = even-places (readSheet (a .sheet .now)) (length (a .left .now)) (length (a .right .now)) (a .n) (a .frames) (length (a .out .now)) (s .pre .2) in
+    let even : length (a .out .now) % 2 ≡ 0 = even-places (readSheet (a .sheet .now)) (length (a .left .now)) (length (a .right .now)) (a .n) _ _ (s .pre .2) in
     let sides : Sides = record { left = a .left .now; right = a .right .now } in
-    let last = frame-last (readSheet (a .sheet .now)) sides (a .n) in (
+    let last = frame-last (readSheet (a .sheet .now)) sides (a .n) in
+    let same = p .play-stage .kept .1 .1 .1 .1 .1 .1 .1 .1 .1 .0 in (
       whole-count _ _ _ _ _ _ last counted even (n .least .ensures) (p .play-stage .ensures),
-      whole-buffer _ _ _ _ _ _ last counted even (n .least .ensures) (p .play-stage .ensures) _ (p .play-stage .kept .1 .1 .1 .1 .1 .1 .1 .1 .1 .0) (c .before .silence-from .ensures),
+      whole-buffer _ _ _ _ _ _ last counted even (n .least .ensures) (p .play-stage .ensures) _ same (c .before .silence-from .ensures),
     )
 
 pub next-block-spec : {M : Type 1} → statement M

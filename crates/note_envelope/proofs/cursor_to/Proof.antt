@@ -5,8 +5,11 @@ use Rattle.note_envelope.proofs.CursorLaws.{stays}
 use Rattle.note_envelope.proofs.cursor_to.Statement.{statement}
 use Rattle.note_envelope.proofs.cursor_to.Tie as tie
 
+abbrev entry : tie.After-struct-known → tie.Start
+entry c = c .before .before
+
 returns : tie.Need-returns
-returns c = stays _ _ _ (c .before .before .before .pre .0) (c .if1 .taken)
+returns c = stays _ _ _ (entry (c .before) .pre .0) (c .if1 .taken)
 
 seek-requires : tie.Need-seek-requires
 seek-requires c κs = search needs

@@ -20,84 +20,116 @@ Inv-loop g path stage points segments left right m d out₀ t₀ e₀ r₀ pos�
 abbrev μ-loop : tie.MeasureT-loop
 μ-loop g path stage points segments left right m d out₀ t₀ e₀ r₀ pos₀ count₀ i₀ out t e r pos count i = d - i
 
--- the function's entry, from the loop's head
-abbrev S : tie.At-loop Inv-loop μ-loop → tie.Start Inv-loop μ-loop
-S l = l .before .before .before .before .before .before .before .before .before
+-- the function's entry, from the places before the loop and from its head
+abbrev known-entry : tie.After-struct-known Inv-loop μ-loop → tie.Start Inv-loop μ-loop
+known-entry c = c .before .before .before
+
+abbrev told-entry : tie.After-struct-told Inv-loop μ-loop → tie.Start Inv-loop μ-loop
+told-entry c = known-entry (c .before .before)
+
+abbrev head-entry : tie.After-struct-known3 Inv-loop μ-loop → tie.Start Inv-loop μ-loop
+head-entry c = told-entry (c .before .before .before)
+
+abbrev entry : tie.At-loop Inv-loop μ-loop → tie.Start Inv-loop μ-loop
+entry l = head-entry (l .before)
+
+-- the turn of the loop, from where the frame's run is known and from where the frame is made
+abbrev turn : tie.After-run-to Inv-loop μ-loop → tie.In-loop Inv-loop μ-loop
+turn c = c .before .before .before
+
+abbrev turn-head : tie.After-frame-here Inv-loop μ-loop → tie.At-loop Inv-loop μ-loop
+turn-head c = turn (c .before) .before
+
+-- where the frame is made, from where it is stored and counted
+abbrev to-store : tie.After-struct-told3 Inv-loop μ-loop → tie.After-frame-here Inv-loop μ-loop
+to-store c = c .before .before .before
+
+abbrev to-count : tie.After-struct-known5 Inv-loop μ-loop → tie.After-frame-here Inv-loop μ-loop
+to-count c = to-store (c .before .before .before)
 
 sub-t : tie.Need-sub-t Inv-loop μ-loop
-sub-t c = let k = c .before .before .before .pre in omega (arith, k .since-then)
+sub-t c = let k = known-entry c .pre in omega (arith, k .since-then)
 
 mul-t : tie.Need-mul-t Inv-loop μ-loop
-mul-t c = let k = c .before .before .before .pre in omega (arith, k .in-time)
+mul-t c = let k = known-entry c .pre in omega (arith, k .in-time)
 
 div-cursor-at : tie.Need-div-cursor-at Inv-loop μ-loop
-div-cursor-at c = c .before .before .before .before .pre .rate-some
+div-cursor-at c = known-entry (c .before) .pre .rate-some
 
 cursor-at-requires : tie.Need-cursor-at-requires Inv-loop μ-loop
-cursor-at-requires c κs = c .before .before .before .before .before .pre .points-whole
+cursor-at-requires c κs = told-entry c .pre .points-whole
 
 run-start-requires : tie.Need-run-start-requires Inv-loop μ-loop
-run-start-requires c κs = c .before .before .before .before .before .before .pre .sane
+run-start-requires c κs = told-entry (c .before) .pre .sane
 
 mul-pos : tie.Need-mul-pos Inv-loop μ-loop
 mul-pos c =
-    let s = c .before .before .before .before .before .before .before .before in
+    let s = head-entry c in
     omega (arith, step-small (s .pre) (s .args .m) (omega (arith, s .pre .in-time)))
 
 loop-holds : tie.Need-loop-holds Inv-loop μ-loop
 loop-holds c =
-    let a = c .before .before .before .before .before .before .before .before .args in
-    let level-fits : SFits w32 (a .stage .level) = search needs in (
+    let a = head-entry c .args in
+    let level-fits : SFits w32 (a .stage .level) = search needs in
+    let follows = rw (toZ-ofZ level-fits) at (c .before .before .cursor-at .ensures) in
+    let run = c .before .run-start .ensures in (
       filled-none _ _ _ _,
-      cursors-start (a .path) (a .stage) (a .points .now) (a .segments .now) (a .m) _ _ (rw (toZ-ofZ level-fits) at (c .before .before .cursor-at .ensures)) (c .before .run-start .ensures .0) (c .before .run-start .ensures .1),
+      cursors-start (a .path) (a .stage) (a .points .now) (a .segments .now) (a .m) _ _ follows (run .0) (run .1),
     )
 
 div-cursor-to : tie.Need-div-cursor-to Inv-loop μ-loop
-div-cursor-to c = S (c .before .before) .pre .rate-some
+div-cursor-to c = entry (c .before .before) .pre .rate-some
 
 cursor-to-requires : tie.Need-cursor-to-requires Inv-loop μ-loop
 cursor-to-requires c κs = let u = c .before .before .loop .inv .1 in (stood (u .level), rw (u .time-is) (u .level-then))
 
 run-to-requires : tie.Need-run-to-requires Inv-loop μ-loop
 run-to-requires c κs =
-    let l = c .before .before .before in
-    let k = S l .pre in
+    let known = c .before in
+    let l = known .before .before in
+    let k = entry l .pre in
     let u = l .loop .inv .1 in
     let g = u .place-is in
-    (k .sane, u .run, rw g (u .run-then), omega (arith, step-small k (S l .args .m + l .loop .i) (omega (arith, k .in-time, l .loop .inv .0 .within))))
+    let small = step-small k (entry l .args .m + l .loop .i) (omega (arith, k .in-time, l .loop .inv .0 .within)) in
+    (k .sane, u .run, rw g (u .run-then), omega (arith, small))
 
 frame-here-requires : tie.Need-frame-here-requires Inv-loop μ-loop
-frame-here-requires c κs = suits (S (c .before .before .before .before) .pre) _ _ _ _ _ (c .before .cursor-to .ensures) (c .run-to .ensures)
+frame-here-requires c κs =
+    suits (entry (turn c .before) .pre) _ _ _ _ _ (c .before .cursor-to .ensures) (c .run-to .ensures)
 
 mul-put-frame : tie.Need-mul-put-frame Inv-loop μ-loop
-mul-put-frame c = let l = c .before .before .before .before .before .before in let k = S l .pre in omega (arith, k .in-time)
+mul-put-frame c = let k = entry (turn-head (c .before)) .pre in omega (arith, k .in-time)
 
 put-frame-requires : tie.Need-put-frame-requires Inv-loop μ-loop
-put-frame-requires c κs = let l = c .before .before .before .before .before .before .before .before in room-more (l .loop .inv .0) (c .before .before .before .before .before .before .before .loop-test .taken) (S l .pre .room)
+put-frame-requires c κs =
+    let t = turn (to-store c .before) in
+    room-more (t .before .loop .inv .0) (t .loop-test .taken) (entry (t .before) .pre .room)
 
 cast-count : tie.Need-cast-count Inv-loop μ-loop
 cast-count c = search needs
 
 add-count : tie.Need-add-count Inv-loop μ-loop
 add-count c =
-    let l = c .before .before .before .before .before .before .before .before .before .before .before in
-    omega (arith, S l .pre .in-time, count-small (l .loop .inv .0), l .loop .inv .0 .within, byte-small (c .before .before .before .before .before .before .frame-here .result .sounds))
+    let f = to-count c in
+    let l = turn-head f in
+    omega (arith, entry l .pre .in-time, count-small (l .loop .inv .0), l .loop .inv .0 .within, byte-small (f .frame-here .result .sounds))
 
 add-t : tie.Need-add-t Inv-loop μ-loop
 add-t c =
-    let l = c .before .before .before .before .before .before .before .before .before .before .before in
-    omega (arith, S l .pre .in-time, l .loop .inv .0 .within, l .loop .inv .1 .time-is)
+    let l = turn-head (to-count c) in
+    omega (arith, entry l .pre .in-time, l .loop .inv .0 .within, l .loop .inv .1 .time-is)
 
 add-pos : tie.Need-add-pos Inv-loop μ-loop
 add-pos c =
-    let l = c .before .before .before .before .before .before .before .before .before .before .before .before in
-    let k = S l .pre in
-    omega (arith, step-small k (S l .args .m + l .loop .i) (omega (arith, k .in-time, l .loop .inv .0 .within)), k .step-fits, l .loop .inv .1 .place-is)
+    let l = turn-head (to-count (c .before)) in
+    let k = entry l .pre in
+    let small = step-small k (entry l .args .m + l .loop .i) (omega (arith, k .in-time, l .loop .inv .0 .within)) in
+    omega (arith, small, k .step-fits, l .loop .inv .1 .place-is)
 
 add-i : tie.Need-add-i Inv-loop μ-loop
 add-i c =
-    let l = c .before .before .before .before .before .before .before .before .before .before .before .before in
-    omega (arith, S l .pre .in-time, l .loop .inv .0 .within)
+    let l = turn-head (to-count (c .before)) in
+    omega (arith, entry l .pre .in-time, l .loop .inv .0 .within)
 
 loop-less : tie.Need-loop-less Inv-loop μ-loop
 loop-less c = omega arith
@@ -107,16 +139,21 @@ next m i = omega arith
 
 loop-again : tie.Need-loop-again Inv-loop μ-loop
 loop-again c =
-    let l = c .before .before .before .before .before .before .before .before .before .before .before .before in
-    let a = S l .args in
-    let k = S l .pre in
+    let counted = c .before in
+    let made = to-count counted in
+    let l = turn-head made in
+    let a = entry l .args in
+    let k = entry l .pre in
     let u = l .loop .inv .1 in
-    let f = c .before .before .before .before .before .before .before .frame-here in
-    let run = c .before .before .before .before .before .before .before .before .run-to .ensures in
-    let level = c .before .before .before .before .before .before .before .before .before .cursor-to .ensures in (
-      filled-more (l .loop .inv .0) (f .result) _ _ _ (c .before .before .before .before .before .before .before .before .before .before .before .loop-test .taken) (k .room)
-          (frame-is (a .g) (a .path) (a .stage) (a .points .now) (a .segments .now) (a .left .now) (a .right .now) (a .m + l .loop .i) _ _ _ _ (f .result) (f .ensures) (ap (λ (x : ℕ). x / 65536) (u .place-is)) refl run (level-here u _ level))
-          (toZ-ofZ (search needs)) (toZ-ofZ (search needs)) (c .before .before .before .put-frame .ensures),
+    let f = made .frame-here in
+    let run = made .before .run-to .ensures in
+    let level = made .before .before .cursor-to .ensures in
+    let step = ap (λ (x : ℕ). x / 65536) (u .place-is) in
+    let is =
+    frame-is (a .g) (a .path) (a .stage) (a .points .now) (a .segments .now) (a .left .now) (a .right .now) (a .m + l .loop .i)
+    _ _ _ _ (f .result) (f .ensures) step refl run (level-here u _ level) in (
+      filled-more (l .loop .inv .0) (f .result) _ _ _ (turn (made .before) .loop-test .taken) (k .room) is
+          (toZ-ofZ (search (needs, f .ok))) (toZ-ofZ (search (needs, f .ok))) (counted .before .before .put-frame .ensures),
       rw (next (a .m) (l .loop .i)) (cursors-more u _ _ (k .rate-some) (omega (arith, k .since-then)) level run),
     )
 

@@ -19,6 +19,20 @@ use borrow.Author.Needs.{needs}
 use Rattle.voice_rules.proofs.voice_refusal.Statement.{statement}
 use Rattle.voice_rules.proofs.voice_refusal.Tie as tie
 
+-- where the header is read, from the first rule's test and from the total's
+abbrev header-read : tie.Else1 → tie.After-sheet-header
+header-read c = c .before .before
+
+abbrev total-read : tie.After-total-samples-per-channel → tie.After-sheet-header
+total-read c = header-read (c .before)
+
+-- where the total is known
+abbrev total-known : tie.After-enum-told2 → tie.After-total-samples-per-channel
+total-known c = c .before .before
+
+abbrev total-told : tie.After-is-suited → tie.After-enum-told2
+total-told c = c .before .before
+
 sheet-header-requires : tie.Need-sheet-header-requires
 sheet-header-requires c κs = search needs
 
@@ -31,9 +45,9 @@ returns c =
 abbrev rules : tie.After-shared-slice-known → List Rule
 rules c = let a = c .before .args in voiceRules (readSheet (a .sheet .now)) (a .left) (a .right)
 
-compression-passed : (c : tie.Else1) → Passed 1 (rules (c .before .before .before))
+compression-passed : (c : tie.Else1) → Passed 1 (rules (header-read c .before))
 compression-passed c =
-    let read = c .before .before .sheet-header in
+    let read = header-read c .sheet-header in
     first-later _ _ (ap (λ x. ltb 1 (x .«compression_byte»)) (sym (read .ensures)) ∙ le-ltb 1 (read .result .«compression_byte») (c .if1 .left))
 
 total-samples-per-channel-requires : tie.Need-total-samples-per-channel-requires
@@ -45,10 +59,10 @@ enum-told c = search needs
 enum-told-2 : tie.Need-enum-told-2
 enum-told-2 c = search needs
 
-total-passed : (c : tie.After-enum-told2) → Passed 2 (rules (c .before .before .before .before .before .before))
+total-passed : (c : tie.After-enum-told2) → Passed 2 (rules (total-read (total-known c) .before))
 total-passed c =
-    let found = c .before .before in
-    let read = found .before .before .before .sheet-header in
+    let found = total-known c in
+    let read = total-read found .sheet-header in
     let small = total-is (read .result) _ (sym (found .total-samples-per-channel .ensures) ∙ c .enum-told2 .given .1) in
     compression-passed (found .before) ∙ first-later _ _ (ap (λ x. leb (2 ^ 64) (totalSamples x)) (sym (read .ensures)) ∙ lt-leb (2 ^ 64) (totalSamples (read .result)) (small .0))
 
@@ -60,25 +74,26 @@ is-suited-requires c κs = search needs
 
 -- the lengths are judged by the header and the channel that were read
 suits : (c : tie.After-is-suited) →
-    let a = c .before .before .before .before .before .before .before .before .before .args in
+    let a = total-read (total-known (total-told c)) .before .before .args in
     let v = readSheet (a .sheet .now) in
     lengthsSuit (v .header) (isStereo (v .channel)) (a .left) (a .right) ≡ c .is-suited .result
 suits c =
-    let a = c .before .before .before .before .before .before .before .before .before .args in
-    sym (c .is-suited .ensures ∙ ap₂ (λ h stereo. lengthsSuit h stereo (a .left) (a .right)) (c .before .before .before .before .before .before .before .sheet-header .ensures) (c .before .sheet-stereo .ensures))
+    let read = total-read (total-known (total-told c)) in
+    let a = read .before .before .args in
+    sym (c .is-suited .ensures ∙ ap₂ (λ h stereo. lengthsSuit h stereo (a .left) (a .right)) (read .sheet-header .ensures) (c .before .sheet-stereo .ensures))
 
 returns-2 : tie.Need-returns-2
-returns-2 c = sym (total-passed (c .before .before .before) ∙ first-later _ _ (ap not (suits (c .before) ∙ c .if2 .taken)) ∙ first-none)
+returns-2 c = sym (total-passed (total-told (c .before)) ∙ first-later _ _ (ap not (suits (c .before) ∙ c .if2 .taken)) ∙ first-none)
 
 returns-3 : tie.Need-returns-3
 returns-3 c =
     let found = c .before .before in
-    let read = found .before .before .before .sheet-header in
+    let read = total-read found .sheet-header in
     let large = total-not (read .result) _ (sym (found .total-samples-per-channel .ensures) ∙ c .enum-told .given .1) in
     sym (compression-passed (found .before) ∙ first-here _ _ (ap (λ x. leb (2 ^ 64) (totalSamples x)) (sym (read .ensures)) ∙ le-leb (2 ^ 64) (totalSamples (read .result)) (large .0)))
 
 returns-4 : tie.Need-returns-4
-returns-4 c = sym (total-passed (c .before .before .before) ∙ first-here _ _ (ap not (suits (c .before) ∙ c .if2 .left)))
+returns-4 c = sym (total-passed (total-told (c .before)) ∙ first-here _ _ (ap not (suits (c .before) ∙ c .if2 .left)))
 
 pub voice-refusal-spec : {M : Type 1} → statement M
 voice-refusal-spec =

@@ -22,7 +22,8 @@ add-self c = search needs
 
 returns : tie.Need-returns
 returns c =
-    let a = c .before .before .before .args in
+    let within = c .before in
+    let a = within .before .before .args in
     let e : min (a .self .frames + a .frames) 4294967295 ≡ a .self .frames + a .frames = min-eq-left (omega arith) in
     simp e
 

@@ -33,13 +33,14 @@ enum-told : tie.Need-enum-told
 enum-told c = search needs
 
 fill-sound-requires : tie.Need-fill-sound-requires
-fill-sound-requires c κs = sym (c .before .before .before .judge-sheet .ensures) ∙ c .before .enum-told .given .1
+fill-sound-requires c κs = let told = c .before in sym (told .before .before .judge-sheet .ensures) ∙ told .enum-told .given .1
 
 returns : tie.Need-returns
 returns c =
     let e = c .before in
-    let s = e .before .before .before .before in
-    let same = ap (left-by s) (sym (sym (e .before .before .judge-sheet .ensures) ∙ e .number .given .1)) in
+    let j = e .before .before in
+    let s = j .before .before in
+    let same = ap (left-by s) (sym (sym (j .judge-sheet .ensures) ∙ e .number .given .1)) in
     (ap (λ (x : FillResult). x .answer) same, (ap (λ (x : FillResult). x .note) same, ap (λ (x : FillResult). x .buffer) same))
 
 same-length : tie.Need-same-length
@@ -49,8 +50,9 @@ returns-2 : tie.Need-returns-2
 returns-2 c =
     let f = c .before in
     let e = f .before .before in
-    let s = e .before .before .before .before in
-    let same = ap (left-by s) (sym (sym (e .before .before .judge-sheet .ensures) ∙ e .enum-told .given .1)) in
+    let j = e .before .before in
+    let s = j .before .before in
+    let same = ap (left-by s) (sym (sym (j .judge-sheet .ensures) ∙ e .enum-told .given .1)) in
     let done = f .fill-sound .ensures in
     (done .0 ∙ ap (λ (x : FillResult). x .answer) same, (done .1 .0 ∙ ap (λ (x : FillResult). x .note) same, done .1 .1 ∙ ap (λ (x : FillResult). x .buffer) same))
 

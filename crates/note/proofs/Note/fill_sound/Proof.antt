@@ -18,6 +18,13 @@ use Rattle.note.proofs.FillLaws.{fill-refused, fill-accepted}
 use Rattle.note.proofs.Note.fill_sound.Statement.{statement}
 use Rattle.note.proofs.Note.fill_sound.Tie as tie
 
+-- where the layout is known, and the function's entry
+abbrev layout-known : tie.After-fill-refusal → tie.After-layout-of
+layout-known c = c .before .before
+
+abbrev entry : tie.After-fill-refusal → tie.Start
+entry c = layout-known c .before .before
+
 abbrev sides : tie.Start → Sides
 sides s = record { left = s .args .left .now; right = s .args .right .now }
 
@@ -33,7 +40,7 @@ fill-refusal-requires c κs = search needs
 
 returns : tie.Need-returns
 returns c =
-    let s = c .before .before .before .before .before in
+    let s = entry (c .before) in
     let a = s .args in
     let e = fill-refused (readSheet (a .sheet .now)) (sides s) (a .self .playing) (a .self .frames) (length (a .out .now)) _ (c .before .fill-refusal .ensures) (c .if1 .taken) in
     let same = sym (ap (left-by s) e) in
@@ -42,7 +49,7 @@ returns c =
 next-block-requires : tie.Need-next-block-requires
 next-block-requires c κs =
     let f = c .before .before in
-    (f .before .before .before .before .pre, f .before .before .layout-of .ensures, sym (f .fill-refusal .ensures) ∙ c .before .if1 .left)
+    (entry f .pre, layout-known f .layout-of .ensures, sym (f .fill-refusal .ensures) ∙ c .before .if1 .left)
 
 advance-requires : tie.Need-advance-requires
 advance-requires c κs = search needs
@@ -53,15 +60,17 @@ same-length c = search needs
 returns-2 : tie.Need-returns-2
 returns-2 c =
     let b = c .before .before in
-    let f = b .before .before .before in
-    let s = f .before .before .before .before in
+    let accepted = b .before .before in
+    let f = accepted .before in
+    let s = entry f in
     let a = s .args in
     let v = readSheet (a .sheet .now) in
-    let e = fill-accepted v (sides s) (a .self .playing) (a .self .frames) (length (a .out .now)) _ (f .fill-refusal .ensures) (b .before .before .if1 .left) in
+    let e = fill-accepted v (sides s) (a .self .playing) (a .self .frames) (length (a .out .now)) _ (f .fill-refusal .ensures) (accepted .if1 .left) in
     let same = sym (ap (left-by s) e) in
     let done = b .next-block .ensures in
     let count = frames-length (frame v (sides s) (a .self .playing)) (a .self .frames) (length (a .out .now) / 2) in
-    (ap Sounding (done .0) ∙ ap (λ (x : FillResult). x .answer) same, (c .advance .ensures ∙ ap (advanceOf (a .self)) (sym count) ∙ ap (λ (x : FillResult). x .note) same, done .1 ∙ ap (λ (x : FillResult). x .buffer) same))
+    let after = c .advance .ensures ∙ ap (advanceOf (a .self)) (sym count) in
+    (ap Sounding (done .0) ∙ ap (λ (x : FillResult). x .answer) same, (after ∙ ap (λ (x : FillResult). x .note) same, done .1 ∙ ap (λ (x : FillResult). x .buffer) same))
 
 pub fill-sound-spec : {M : Type 1} → statement M
 fill-sound-spec =

@@ -15,6 +15,10 @@ use Rattle.note_frame.specs.Frame.{msSince, startLevel}
 use Rattle.note_block.proofs.stages.attack_level.Statement.{statement}
 use Rattle.note_block.proofs.stages.attack_level.Tie as tie
 
+-- the function's entry, from the cursor's start
+abbrev entry : tie.After-start-level → tie.Start
+entry c = c .before .before
+
 mul-ms : tie.Need-mul-ms
 mul-ms c = search needs
 
@@ -29,11 +33,13 @@ cursor-at-requires c κs = search needs
 
 -- the cursor stands at frame u's time
 followed : (c : tie.After-struct-known) →
-    let a = c .before .before .before .before .args in
+    let a = entry (c .before .before) .args in
     Follows (a .attack .now) (startLevel (pointsIn (a .attack .now))) (msSince (a .rate) 0 (a .u)) (c .before .cursor-at .result)
 followed c =
-    let z : c .before .before .before .before .args .u - 0 ≡ c .before .before .before .before .args .u = omega arith in
-    rw z (rw (back w32 (c .before .before .start-level .ok), c .before .before .start-level .ensures) at (c .before .cursor-at .ensures))
+    let first = c .before .before in
+    let u = entry first .args .u in
+    let z : u - 0 ≡ u = omega arith in
+    rw z (rw (back w32 (first .start-level .ok), first .start-level .ensures) at (c .before .cursor-at .ensures))
 
 cast-result : tie.Need-cast-result
 cast-result c = omega (zarith, level-small (followed c))

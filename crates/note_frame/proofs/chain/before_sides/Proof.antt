@@ -11,6 +11,9 @@ use Rattle.note_frame.proofs.ChainLaws.{before-sides-fits}
 use Rattle.note_frame.proofs.chain.before_sides.Statement.{statement}
 use Rattle.note_frame.proofs.chain.before_sides.Tie as tie
 
+abbrev entry : tie.After-fade-by → tie.Start
+entry c = c .before .before .before
+
 sample-is : (s : tie.Start) → toZ w32 (ofZ w32 (toZ w8 (ofZ w8 (s .args .sample)))) ≡ s .args .sample
 sample-is s = widened w8 w32 tt (s .fits .sample)
 
@@ -32,17 +35,19 @@ scaled-requires-2 c κs = search needs
 fade-by-requires : tie.Need-fade-by-requires
 fade-by-requires c κs = search needs
 
-result-is : (c : tie.After-fade-by) → toZ w32 (ofZ w32 (c .fade-by .result)) ≡ beforeSides (c .before .before .before .args .g) (c .before .before .before .args .level) (c .before .before .before .args .q) (c .before .before .before .args .sample)
+result-is : (c : tie.After-fade-by) →
+    let a = entry c .args in
+    toZ w32 (ofZ w32 (c .fade-by .result)) ≡ beforeSides (a .g) (a .level) (a .q) (a .sample)
 unfolding beforeSides
 result-is c =
-    let s = c .before .before .before in
+    let s = entry c in
     back w32 (c .fade-by .ok)
     ∙ c .fade-by .ensures
-    ∙ rw (back w32 (c .before .scaled2 .ok), c .before .scaled2 .ensures, back w32 (c .before .before .scaled .ok), c .before .before .scaled .ensures, sample-is s, toZ-ofZ (whole-fits s))
+    ∙ rw (entry, back w32 (c .before .scaled2 .ok), c .before .scaled2 .ensures, back w32 (c .before .before .scaled .ok), c .before .before .scaled .ensures, sample-is s, toZ-ofZ (whole-fits s))
 
 returns : tie.Need-returns
 returns c =
-    let s = c .before .before .before in
+    let s = entry c in
     rw (result-is c) (refl, before-sides-fits (s .args .g) (s .args .level) (s .args .q) (s .args .sample) (s .pre .0) (s .pre .1) (s .fits .sample))
 
 pub before-sides-spec : {M : Type 1} → statement M

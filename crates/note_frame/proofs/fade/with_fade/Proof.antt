@@ -13,29 +13,36 @@ use Rattle.note_frame.proofs.GainsLaws.{octave-length}
 use Rattle.note_frame.proofs.fade.with_fade.Statement.{statement}
 use Rattle.note_frame.proofs.fade.with_fade.Tie as tie
 
+-- where the octave's scale is known, and the function's entry
+abbrev scaled : tie.After-sequence-length → tie.After-power-of-two
+scaled c = c .before .before
+
+abbrev entry : tie.After-power-of-two → tie.Start
+entry c = c .before .before
+
 -- the segments before the fade's are no longer than all
 short : (c : tie.After-sequence-length) →
-    let a = c .before .before .before .before .args in
+    let a = entry (scaled c) .args in
     joinedLength (2 ^ a .k) (take (a .f .segment) (segmentsIn (a .segments .now))) < 2 ^ 32
 short c =
-    let s = c .before .before .before .before in
+    let s = entry (scaled c) in
     let a = s .args in
     lt-of-le-of-lt (length-take (2 ^ a .k) (a .f .segment) (segmentsIn (a .segments .now))) (s .pre .2)
 
 start-is : (c : tie.After-sequence-length) →
-    let a = c .before .before .before .before .args in
-    c .sequence-length .result * c .before .before .power-of-two .result ≡ joinedLength (2 ^ a .k) (take (a .f .segment) (segmentsIn (a .segments .now)))
+    let a = entry (scaled c) .args in
+    c .sequence-length .result * scaled c .power-of-two .result ≡ joinedLength (2 ^ a .k) (take (a .f .segment) (segmentsIn (a .segments .now)))
 start-is c =
-    let scale = c .before .before in
-    octave-length (scale .before .before .args .k) _ _ _ (scale .power-of-two .ensures) (short c) (c .sequence-length .ensures)
+    let scale = scaled c in
+    octave-length (entry scale .args .k) _ _ _ (scale .power-of-two .ensures) (short c) (c .sequence-length .ensures)
 
 length-is : (c : tie.After-sequence-length2) →
-    let scale = c .before .before .before in
-    let a = scale .before .before .args in
+    let scale = scaled (c .before) in
+    let a = entry scale .args in
     c .sequence-length2 .result * scale .power-of-two .result ≡ joinedLength (2 ^ a .k) (segmentsIn (a .segments .now))
 length-is c =
-    let scale = c .before .before .before in
-    let s = scale .before .before in
+    let scale = scaled (c .before) in
+    let s = entry scale in
     octave-length (s .args .k) _ _ _ (scale .power-of-two .ensures) (s .pre .2)
     (c .sequence-length2 .ensures ∙ ap (λ ss. min (joinedLength 1 ss) (2 ^ 32)) (take-all-segments (s .args .segments .now)))
 
@@ -55,13 +62,13 @@ sequence-length-requires-2 : tie.Need-sequence-length-requires-2
 sequence-length-requires-2 c κs = search needs
 
 mul-path-length : tie.Need-mul-path-length
-mul-path-length c = omega (arith, length-is c, c .before .before .before .before .before .pre .2)
+mul-path-length c = omega (arith, length-is c, entry (scaled (c .before)) .pre .2)
 
 cast-t10 : tie.Need-cast-t10
 cast-t10 c = omega (arith, start-is (c .before), short (c .before))
 
 cast-t11 : tie.Need-cast-t11
-cast-t11 c = omega (arith, length-is c, c .before .before .before .before .before .pre .2)
+cast-t11 c = omega (arith, length-is c, entry (scaled (c .before)) .pre .2)
 
 returns : tie.Need-returns
 returns c = simp (start-is (c .before), length-is c)

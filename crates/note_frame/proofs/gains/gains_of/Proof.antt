@@ -23,24 +23,49 @@ use Rattle.note_frame.proofs.GainsLaws.{gains-unfaded, gains-faded, fad
 use Rattle.note_frame.proofs.gains.gains_of.Statement.{statement}
 use Rattle.note_frame.proofs.gains.gains_of.Tie as tie
 
+-- where the shares are known, where the header is, and the function's entry
+abbrev shares-known : tie.After-sheet-fade → tie.After-side-shares
+shares-known c = c .before .before .before
+
+abbrev header-known : tie.After-side-shares → tie.After-sheet-header
+header-known c = c .before .before .before
+
+abbrev sheet-known : tie.After-sheet-fade → tie.After-shared-slice-known
+sheet-known c = header-known (shares-known c) .before
+
+abbrev entry : tie.After-sheet-fade → tie.Start
+entry c = sheet-known c .before
+
+-- where the fade was asked for
+abbrev fade-asked : tie.After-known-told → tie.After-sheet-fade
+fade-asked c = c .before .before .before
+
 -- volume and shares
 unfaded-here : (c : tie.After-sheet-fade) →
-    let shares = c .before .before .before .side-shares .result in
+    let shares = shares-known c .side-shares .result in
     _≡_ {A = Gains}
-    (record { volume = c .before .before .full-volume .result; «left_share» = shares .left; «right_share» = shares .right; stereo = c .before .sheet-stereo .result; fades = false; «fade_start» = 0; «path_length» = 0 })
-    (unfaded (readSheet (c .before .before .before .before .before .before .before .before .args .sheet .now)))
+    (record {
+      volume = c .before .before .full-volume .result;
+      «left_share» = shares .left;
+      «right_share» = shares .right;
+      stereo = c .before .sheet-stereo .result;
+      fades = false;
+      «fade_start» = 0;
+      «path_length» = 0;
+    })
+    (unfaded (readSheet (entry c .args .sheet .now)))
 unfaded-here c =
-    let shares = c .before .before .before in
-    let v = readSheet (shares .before .before .before .before .before .args .sheet .now) in
+    let shares = shares-known c in
+    let v = readSheet (entry c .args .sheet .now) in
     unfaded-is v _ (shares .side-shares .result) _
-    (c .before .before .full-volume .ensures ∙ ap (λ h. min (h .volume) 65536) (shares .before .before .before .sheet-header .ensures))
+    (c .before .before .full-volume .ensures ∙ ap (λ h. min (h .volume) 65536) (header-known shares .sheet-header .ensures))
     (shares .side-shares .ensures ∙ shares-answered (v .channel) (v .pan) _ _ (shares .before .before .sheet-channel .ensures) (shares .before .sheet-pan .ensures))
     (c .before .sheet-stereo .ensures)
 
 -- with a fade: the segments of its sequence lie between two places
 module _ (c : tie.After-known-told) where
   abbrev start : tie.Start
-  start = c .before .before .before .before .before .before .before .before .before .before .before
+  start = entry (fade-asked c)
 
   abbrev sheet : List ℕ
   sheet = start .args .sheet .now
@@ -49,7 +74,7 @@ module _ (c : tie.After-known-told) where
   part = between (start .args .l .sequence) (start .args .l .fade) sheet
 
   bytes : (i : ℕ) → Fits w8 (getD sheet i 0)
-  bytes = c .before .before .before .before .before .before .before .before .before .before .shared-slice-known .given
+  bytes = sheet-known (fade-asked c) .shared-slice-known .given
 
   bounds : (start .args .l .sequence ≤ start .args .l .fade) × (start .args .l .fade ≤ length sheet)
   bounds =
@@ -60,7 +85,7 @@ module _ (c : tie.After-known-told) where
   whole = subst (λ (l : Layout). Whole 8 8 (between (l .sequence) (l .fade) sheet)) (sym (start .pre .1)) (sequence-whole sheet bytes (start .pre .0))
 
   fade-here : readSheet sheet .fade ≡ some (c .before .fade .given .0 .0)
-  fade-here = fade-there (readSheet sheet .fade) _ (sym (c .before .before .before .sheet-fade .ensures) ∙ c .before .fade .given .1)
+  fade-here = fade-there (readSheet sheet .fade) _ (sym (fade-asked c .sheet-fade .ensures) ∙ c .before .fade .given .1)
 
   segments-here : (readSheet sheet .sequence ≡ some (segmentsIn part)) × (joinedLength (2 ^ start .args .k) (segmentsIn part) < 2 ^ 32)
   segments-here =
@@ -110,7 +135,7 @@ with-fade-requires c κs = let k = c .before in (start k .pre .2, whole k, segme
 returns : tie.Need-returns
 returns c =
     let d = c .before .before in
-    let s = d .before .before .before .before .before .before .before .before in
+    let s = entry d in
     let v = readSheet (s .args .sheet .now) in
     unfaded-here d ∙ sym (gains-unfaded v (s .args .k) (no-fade (v .fade) (sym (d .sheet-fade .ensures) ∙ c .enum-told .given .1)))
 
@@ -118,7 +143,7 @@ returns-2 : tie.Need-returns-2
 returns-2 c =
     let k = c .before .before in
     c .with-fade .ensures
-    ∙ ap (λ (g : Gains). withFade g (k .before .fade .given .0 .0) (segmentsIn (part k)) (start k .args .k)) (unfaded-here (k .before .before .before))
+    ∙ ap (λ (g : Gains). withFade g (k .before .fade .given .0 .0) (segmentsIn (part k)) (start k .args .k)) (unfaded-here (fade-asked k))
     ∙ sym (gains-faded (readSheet (sheet k)) (start k .args .k) _ _ (fade-here k) (segments-here k .0))
 
 pub gains-of-spec : {M : Type 1} → statement M

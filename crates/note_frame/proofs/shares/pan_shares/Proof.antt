@@ -13,6 +13,9 @@ use Rattle.note_frame.specs.Shares.{panShares}
 use Rattle.note_frame.proofs.shares.pan_shares.Statement.{statement}
 use Rattle.note_frame.proofs.shares.pan_shares.Tie as tie
 
+abbrev pan-known : tie.After-held-to-unity → tie.After-pan
+pan-known c = c .before .before .before
+
 enum-told : tie.Need-enum-told
 enum-told c = search needs
 
@@ -23,19 +26,19 @@ held-to-unity-requires : tie.Need-held-to-unity-requires
 held-to-unity-requires c κs = search needs
 
 -- a signed field goes to the callee as its bits, read back
-said : (c : tie.After-held-to-unity) → c .held-to-unity .result ≡ heldToUnity (c .before .before .before .pan .given .0 .0 .position)
+said : (c : tie.After-held-to-unity) → c .held-to-unity .result ≡ heldToUnity (pan-known c .pan .given .0 .0 .position)
 said c =
-    let position-fits : SFits w32 (c .before .before .before .pan .given .0 .0 .position) = search needs in
+    let position-fits : SFits w32 (pan-known c .pan .given .0 .0 .position) = search needs in
     c .held-to-unity .ensures ∙ ap heldToUnity (toZ-ofZ position-fits)
 
 sub-right : tie.Need-sub-right
-sub-right c = omega (arith, said c, held-le (c .before .before .before .pan .given .0 .0 .position))
+sub-right c = omega (arith, said c, held-le (pan-known c .pan .given .0 .0 .position))
 
 returns : tie.Need-returns
 returns c = sym (ap (λ x. panShares (panAnswered x)) (c .enum-told .given .1))
 
 returns-2 : tie.Need-returns-2
-returns-2 c = simp (said c, c .before .before .before .pan .given .1)
+returns-2 c = simp (said c, pan-known c .pan .given .1)
 
 pub pan-shares-spec : {M : Type 1} → statement M
 pan-shares-spec =

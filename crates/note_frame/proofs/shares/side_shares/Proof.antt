@@ -22,14 +22,16 @@ pan-shares-requires c κs = search needs
 
 returns : tie.Need-returns
 returns c =
-    let given = c .before .before .channel .given in
-    let pan = panAnswered (c .before .before .before .before .args .pan) in
+    let read = c .before .before in
+    let given = read .channel .given in
+    let pan = panAnswered (read .before .before .args .pan) in
     c .channel-shares .ensures ∙ sym (ap (λ x. sharesOf (channelAnswered x) pan) (given .1) ∙ channel-first (given .0 .0) pan)
 
 returns-2 : tie.Need-returns-2
 returns-2 c =
-    let pan = panAnswered (c .before .before .before .args .pan) in
-    c .pan-shares .ensures ∙ sym (ap (λ x. sharesOf (channelAnswered x) pan) (c .before .enum-told .given .1) ∙ pan-else pan)
+    let told = c .before in
+    let pan = panAnswered (told .before .before .args .pan) in
+    c .pan-shares .ensures ∙ sym (ap (λ x. sharesOf (channelAnswered x) pan) (told .enum-told .given .1) ∙ pan-else pan)
 
 pub side-shares-spec : {M : Type 1} → statement M
 side-shares-spec =

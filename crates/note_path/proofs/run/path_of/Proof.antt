@@ -9,18 +9,27 @@ use Rattle.note_path.proofs.OctavePathLaws.{path-none, octave-fits, pat
 use Rattle.note_path.proofs.run.path_of.Statement.{statement}
 use Rattle.note_path.proofs.run.path_of.Tie as tie
 
+-- the function's entry, and where the octave's samples are known
+abbrev entry : tie.After-power-of-two → tie.Start
+entry c = c .before .before
+
+abbrev octave : tie.After-struct-known2 → tie.After-hi-octave-samples
+octave c = c .before .before .before
+
 -- the octave's start and its parts, added up
 fits : (c : tie.After-hi-octave-samples) →
-    let h = c .before .before .before .args .h in
+    let h = entry (c .before) .args .h in
     let scale = c .before .power-of-two .result in
     c .hi-octave-samples .result * (scale - 1) + (h .«one_shot_hi_samples» * scale + h .«repeat_hi_samples» * scale) < 2 ^ 63
 fits c =
-    let s = c .before .before .before in
+    let s = entry (c .before) in
     let a = s .args in
+    let p = c .before .power-of-two in
+    let n = c .hi-octave-samples in
     omega (
       arith,
       s .pre .0 .samples-small,
-      octave-fits (a .h) (a .k) (a .sequence) (a .samples) (a .segments .now) (c .before .power-of-two .result) (c .before .power-of-two .ensures) (s .pre .0) (s .pre .1) (c .hi-octave-samples .result) (c .hi-octave-samples .ensures),
+      octave-fits (a .h) (a .k) (a .sequence) (a .samples) (a .segments .now) (p .result) (p .ensures) (s .pre .0) (s .pre .1) (n .result) (n .ensures),
     )
 
 power-of-two-requires : tie.Need-power-of-two-requires
@@ -31,14 +40,15 @@ hi-octave-samples-requires c κs = search needs
 
 returns : tie.Need-returns
 returns c =
-    let s = c .before .before .before .before in
+    let power = c .before .before in
+    let s = entry power in
     let a = s .args in
-    let p = c .before .before .power-of-two in
+    let p = power .power-of-two in
     path-none (a .h) (a .k) (a .sequence) (a .samples) (a .segments .now) (p .result) (p .ensures) (s .pre .0) (s .pre .1)
     (sym (c .before .hi-octave-samples .ensures) ∙ c .if1 .taken)
 
 sub-first : tie.Need-sub-first
-sub-first c = omega (arith, c .before .before .power-of-two .ensures, pow-pos (c .before .before .before .before .args .k))
+sub-first c = let power = c .before .before in omega (arith, power .power-of-two .ensures, pow-pos (entry power .args .k))
 
 mul-first : tie.Need-mul-first
 mul-first c = omega (arith, fits (c .before))
@@ -53,14 +63,15 @@ cast-repeat : tie.Need-cast-repeat
 cast-repeat c = search needs
 
 mul-repeat : tie.Need-mul-repeat
-mul-repeat c = omega (arith, fits (c .before .before .before))
+mul-repeat c = omega (arith, fits (octave c))
 
 returns-2 : tie.Need-returns-2
 returns-2 c =
-    let s = c .before .before .before .before .before .before in
+    let power = octave c .before in
+    let s = entry power in
     let a = s .args in
-    let p = c .before .before .before .before .power-of-two in
-    let n = c .before .before .before .hi-octave-samples in
+    let p = power .power-of-two in
+    let n = octave c .hi-octave-samples in
     path-some (a .h) (a .k) (a .sequence) (a .samples) (a .segments .now) (p .result) (p .ensures) (s .pre .0) (s .pre .1)
     (n .result) (n .ensures) (c .before .before .if1 .left)
 

@@ -5,8 +5,11 @@ use native.Mathlib.Omega.{arith}
 use Rattle.note_path.proofs.run.run_to.Statement.{statement}
 use Rattle.note_path.proofs.run.run_to.Tie as tie
 
+abbrev entry : tie.After-struct-known → tie.Start
+entry c = c .before .before
+
 returns : tie.Need-returns
-returns c = let s = c .before .before .before in record { good = s .pre .1; begun = s .pre .2; past = λ g. absurd (omega arith) }
+returns c = let s = entry (c .before) in record { good = s .pre .1; begun = s .pre .2; past = λ g. absurd (omega arith) }
 
 next-run-requires : tie.Need-next-run-requires
 next-run-requires c κs = search needs

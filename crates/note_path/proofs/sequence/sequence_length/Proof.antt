@@ -22,19 +22,30 @@ Inv-loop segments count sum₀ left₀ at₀ sum left at =
 abbrev μ-loop : tie.MeasureT-loop
 μ-loop segments count sum₀ left₀ at₀ sum left at = length segments - at
 
+-- the function's entry, from the loop's head, and the turn in which a segment is counted
+abbrev entry : tie.At-loop Inv-loop μ-loop → tie.Start Inv-loop μ-loop
+entry l = l .before .before .before
+
+abbrev some-left : tie.After-len Inv-loop μ-loop → tie.Else1 Inv-loop μ-loop
+some-left c = c .before .before
+
+abbrev turn : tie.After-capped Inv-loop μ-loop → tie.In-loop Inv-loop μ-loop
+turn c = some-left (c .before) .before
+
 -- in a turn: the segment at the place is all there
-long : (c : tie.In-loop Inv-loop μ-loop) → c .before .loop .at + 9 ≤ length (c .before .before .before .before .args .segments .now)
-long c = segment-long (c .before .before .before .before .args .segments .now) (c .before .loop .inv .0) (c .loop-test .taken)
+long : (c : tie.In-loop Inv-loop μ-loop) → c .before .loop .at + 9 ≤ length (entry (c .before) .args .segments .now)
+long c = segment-long (entry (c .before) .args .segments .now) (c .before .loop .inv .0) (c .loop-test .taken)
 
 next-member-requires : tie.Need-next-member-requires Inv-loop μ-loop
 next-member-requires c κs = zero-le
 
 loop-holds : tie.Need-loop-holds Inv-loop μ-loop
 loop-holds c =
-    let s = c .before .before in (
+    let s = c .before .before in
+    let same = segments-same (s .args .segments .now) 0 (c .next-member .ensures) in (
       stands-next (s .args .segments .now) 0 (c .next-member .ensures) zero-le (s .pre),
       zero-le,
-      ap (λ (ss : List SeqnSegment). lengthFrom 0 (s .args .count) ss) (segments-same (s .args .segments .now) 0 (c .next-member .ensures)) ∙ from-start (s .args .count) (segmentsIn (s .args .segments .now)),
+      ap (λ (ss : List SeqnSegment). lengthFrom 0 (s .args .count) ss) same ∙ from-start (s .args .count) (segmentsIn (s .args .segments .now)),
     )
 
 returns : tie.Need-returns Inv-loop μ-loop
@@ -55,43 +66,45 @@ cast-capped : tie.Need-cast-capped Inv-loop μ-loop
 cast-capped c = search needs
 
 add-capped : tie.Need-add-capped Inv-loop μ-loop
-add-capped c = omega (arith, c .before .before .before .before .loop .inv .1)
+add-capped c = let l = some-left c .before .before in omega (arith, l .loop .inv .1)
 
 capped-requires : tie.Need-capped-requires Inv-loop μ-loop
 capped-requires c κs = tt
 
 sub-left : tie.Need-sub-left Inv-loop μ-loop
-sub-left c = omega (arith, c .before .before .before .if1 .left)
+sub-left c = omega (arith, some-left (c .before) .if1 .left)
 
 add-next : tie.Need-add-next Inv-loop μ-loop
-add-next c = omega (arith, long (c .before .before .before .before))
+add-next c = omega (arith, long (turn c))
 
 next-member-requires-2 : tie.Need-next-member-requires-2 Inv-loop μ-loop
-next-member-requires-2 c κs = long (c .before .before .before .before)
+next-member-requires-2 c κs = long (turn c)
 
 loop-less : tie.Need-loop-less Inv-loop μ-loop
 loop-less c =
-    let t = c .before .before .before .before .before in
-    let a = t .before .before .before .before .args in
+    let t = turn (c .before) in
+    let a = entry (t .before) .args in
     omega (arith, past-after (a .segments .now) (t .before .loop .inv .0) (t .loop-test .taken) (c .next-member2 .ensures), t .loop-test .taken)
 
 loop-again : tie.Need-loop-again Inv-loop μ-loop
 loop-again c =
-    let r = c .before .before .before in
+    let n = c .before .before in
+    let r = n .before in
     let t = r .before .before in
     let l = t .before .loop in
-    let a = t .before .before .before .before .args in (
+    let a = entry (t .before) .args in
+    let past = past-segments (a .segments .now) (l .inv .0) (t .loop-test .taken) (c .next-member2 .ensures) (r .read-segment .result) (r .read-segment .ensures) in (
       stands-past (a .segments .now) (l .inv .0) (t .loop-test .taken) (c .next-member2 .ensures),
       omega (arith, c .before .capped .ensures),
-      sym (from-first (l .sum) _ (c .before .before .len .result) (l .left) (r .read-segment .result) _ (omega (arith, r .before .if1 .left)) (c .before .before .len .ensures) (c .before .capped .ensures))
-          ∙ ap (λ (ss : List SeqnSegment). lengthFrom (l .sum) (l .left) ss) (sym (past-segments (a .segments .now) (l .inv .0) (t .loop-test .taken) (c .next-member2 .ensures) (r .read-segment .result) (r .read-segment .ensures)))
+      sym (from-first (l .sum) _ (n .len .result) (l .left) (r .read-segment .result) _ (omega (arith, r .before .if1 .left)) (n .len .ensures) (c .before .capped .ensures))
+          ∙ ap (λ (ss : List SeqnSegment). lengthFrom (l .sum) (l .left) ss) (sym past)
           ∙ l .inv .2,
     )
 
 returns-2 : tie.Need-returns-2 Inv-loop μ-loop
 returns-2 c =
     let l = c .before .loop in
-    let a = c .before .before .before .before .args in
+    let a = entry (c .before) .args in
     sym (from-end (l .sum) (l .left) (l .inv .1))
     ∙ ap (λ (ss : List SeqnSegment). lengthFrom (l .sum) (l .left) ss) (sym (segments-end (a .segments .now) (l .at) (c .loop-test .left)))
     ∙ l .inv .2

@@ -17,8 +17,9 @@ returns c = search needs
 
 returns-2 : tie.Need-returns-2
 returns-2 c =
-    let a = c .before .before .before .args in
-    sym (ap (λ key. keyUpAhead key (a .frames)) (c .before .key .given .1))
+    let read = c .before in
+    let a = read .before .before .args in
+    sym (ap (λ key. keyUpAhead key (a .frames)) (read .key .given .1))
 
 pub key-up-ahead-spec : {M : Type 1} → statement M
 key-up-ahead-spec = tie.close (tie.spec enum-told enum-known-key returns returns-2)

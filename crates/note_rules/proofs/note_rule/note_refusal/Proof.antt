@@ -11,6 +11,13 @@ use borrow.Author.Needs.{needs}
 use Rattle.note_rules.proofs.note_rule.note_refusal.Statement.{statement}
 use Rattle.note_rules.proofs.note_rule.note_refusal.Tie as tie
 
+-- the function's entry, from the test of the octave and from that of the speed
+abbrev octave-entry : tie.Else1 → tie.Start
+octave-entry c = c .before .before
+
+abbrev speed-entry : tie.Else2 → tie.Start
+speed-entry c = octave-entry (c .before .before)
+
 -- the rules, by what the code was given
 abbrev rules : tie.Start → List Rule
 rules s = noteRules (s .args .h) (s .args .n) (s .args .frames)
@@ -21,7 +28,7 @@ has-octave-requires c κs = search needs
 returns : tie.Need-returns
 returns c = sym (first-here _ _ (ap not (sym (c .before .has-octave .ensures)) ∙ c .if1 .taken))
 
-octave-passed : (c : tie.Else1) → Passed 1 (rules (c .before .before))
+octave-passed : (c : tie.Else1) → Passed 1 (rules (octave-entry c))
 octave-passed c = first-later _ _ (ap not (sym (c .before .has-octave .ensures)) ∙ c .if1 .left)
 
 speed-refusal-requires : tie.Need-speed-refusal-requires
@@ -33,9 +40,9 @@ returns-2 c =
     e ∙ sym (octave-passed (c .before .before) ∙ first-stands _ _ (λ none. c .if2 .taken (e ∙ none)))
 
 -- the step's rule and the rate's are passed together
-speed-passed : (c : tie.Else2) → Passed 3 (rules (c .before .before .before .before))
+speed-passed : (c : tie.Else2) → Passed 3 (rules (speed-entry c))
 speed-passed c =
-    let n = c .before .before .before .before .args .n in
+    let n = speed-entry c .args .n in
     octave-passed (c .before .before) ∙ first-join (speedRules (n .step) (n .rate)) _ (speed-numbered (n .step) (n .rate)) (sym (c .before .speed-refusal .ensures) ∙ c .if2 .left)
 
 key-up-ahead-requires : tie.Need-key-up-ahead-requires

@@ -10,6 +10,10 @@ use Rattle.refusal.proofs.RuleLaws.{Passed, first-here, first-later, first-none
 use Rattle.note_rules.proofs.note_rule.speed_refusal.Statement.{statement}
 use Rattle.note_rules.proofs.note_rule.speed_refusal.Tie as tie
 
+-- the function's entry, from the tests of the rate
+abbrev entry : tie.Else2 → tie.Start
+entry c = c .before .before
+
 -- a test for 0 or past a limit
 past : (n most : ℕ) → (n ≡ 0 → ⊥) → most < n → (eqb n 0 || ltb most n) ≡ true
 past n most some h = rw (ne-eqb n 0 some, lt-ltb most n h)
@@ -17,8 +21,8 @@ past n most some h = rw (ne-eqb n 0 some, lt-ltb most n h)
 within : (n most : ℕ) → (n ≡ 0 → ⊥) → n ≤ most → (eqb n 0 || ltb most n) ≡ false
 within n most some h = rw (ne-eqb n 0 some, le-ltb most n h)
 
-step-passed : (c : tie.Else2) → let a = c .before .before .args in Passed 1 (speedRules (a .step) (a .rate))
-step-passed c = first-later _ _ (within (c .before .before .args .step) 16777216 (c .before .if1 .left) (c .if2 .left))
+step-passed : (c : tie.Else2) → let a = entry c .args in Passed 1 (speedRules (a .step) (a .rate))
+step-passed c = first-later _ _ (within (entry c .args .step) 16777216 (c .before .if1 .left) (c .if2 .left))
 
 returns : tie.Need-returns
 returns c = let a = c .before .args in sym (first-here _ _ (rw (eq-eqb (a .step) 0 (c .if1 .taken))))
@@ -27,16 +31,16 @@ returns-2 : tie.Need-returns-2
 returns-2 c = sym (first-here _ _ (past (c .before .before .args .step) 16777216 (c .before .if1 .left) (c .if2 .taken)))
 
 returns-3 : tie.Need-returns-3
-returns-3 c = let a = c .before .before .before .args in sym (step-passed (c .before) ∙ first-here _ _ (rw (eq-eqb (a .rate) 0 (c .if3 .taken))))
+returns-3 c = let a = entry (c .before) .args in sym (step-passed (c .before) ∙ first-here _ _ (rw (eq-eqb (a .rate) 0 (c .if3 .taken))))
 
 returns-4 : tie.Need-returns-4
 returns-4 c =
-    let a = c .before .before .before .before .args in
+    let a = entry (c .before .before) .args in
     sym (step-passed (c .before .before) ∙ first-here _ _ (past (a .rate) 192000 (c .before .if3 .left) (c .if4 .taken)))
 
 returns-5 : tie.Need-returns-5
 returns-5 c =
-    let a = c .before .before .before .before .args in
+    let a = entry (c .before .before) .args in
     sym (step-passed (c .before .before) ∙ first-later _ _ (within (a .rate) 192000 (c .before .if3 .left) (c .if4 .left)) ∙ first-none)
 
 pub speed-refusal-spec : {M : Type 1} → statement M

@@ -13,6 +13,13 @@ use Rattle.note_rules.proofs.SequenceLaws.{part-order, part-within, par
 use Rattle.note_rules.proofs.octave.octave_refusal.Statement.{statement}
 use Rattle.note_rules.proofs.octave.octave_refusal.Tie as tie
 
+-- where the sheet is known to be as long as it is
+abbrev known : tie.After-segments → tie.After-shared-slice-known
+known c = c .before .before
+
+abbrev entry : tie.After-segments → tie.Start
+entry c = known c .before
+
 sheet-header-requires : tie.Need-sheet-header-requires
 sheet-header-requires c κs = search needs
 
@@ -26,17 +33,17 @@ part-segments-end : tie.Need-part-segments-end
 part-segments-end c = let s = c .before .before in part-within (s .args .sheet .now) (c .before .shared-slice-known .given) (s .pre .0) (s .args .l) (s .pre .1)
 
 too-long-requires : tie.Need-too-long-requires
-too-long-requires c κs = let s = c .before .before .before in part-whole (s .args .sheet .now) (c .before .before .shared-slice-known .given) (s .pre .0) (s .args .l) (s .pre .1)
+too-long-requires c κs = let s = entry c in part-whole (s .args .sheet .now) (known c .shared-slice-known .given) (s .pre .0) (s .args .l) (s .pre .1)
 
 -- whether it is too long, by the header and the segments that were read
 long : (c : tie.After-too-long) →
-    let a = c .before .before .before .before .args in
+    let a = entry (c .before) .args in
     let v = readSheet (a .sheet .now) in
     (octaveThere (v .header) (a .k) && ltb 4294967295 (joinedLength (2 ^ a .k) (segmentsOf (v .sequence)))) ≡ c .too-long .result
 long c =
-    let s = c .before .before .before .before in
+    let s = entry (c .before) in
     let k = s .args .k in
-    let segments = part-segments (s .args .sheet .now) (c .before .before .before .shared-slice-known .given) (s .pre .0) (s .args .l) (s .pre .1) in
+    let segments = part-segments (s .args .sheet .now) (known (c .before) .shared-slice-known .given) (s .pre .0) (s .args .l) (s .pre .1) in
     sym (c .too-long .ensures ∙ ap₂ (λ h ss. octaveThere h k && ltb 4294967295 (joinedLength (2 ^ k) ss)) (c .before .before .sheet-header .ensures) segments)
 
 returns : tie.Need-returns

@@ -21,8 +21,9 @@ returns c = search needs
 
 returns-2 : tie.Need-returns-2
 returns-2 c =
-    let a = c .before .before .before .before .args in
-    let e = c .before .before .fade .given in
+    let read = c .before .before in
+    let a = read .before .before .args in
+    let e = read .fade .given in
     sym (ap (λ fade. fadeMissesBy fade (a .segments)) (e .1) ∙ not-below (e .0 .0 .segment) (a .segments))
 
 pub fade-misses-spec : {M : Type 1} → statement M

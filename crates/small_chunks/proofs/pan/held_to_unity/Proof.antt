@@ -10,13 +10,18 @@ returns : tie.Need-returns
 returns c = omega (zarith, known (c .before .fits .z), held-is (c .before .args .z))
 
 returns-2 : tie.Need-returns-2
-returns-2 c = omega (zarith, known (c .before .before .fits .z), held-is (c .before .before .args .z))
+returns-2 c = let s = c .before .before in omega (zarith, known (s .fits .z), held-is (s .args .z))
 
 cast-result : tie.Need-cast-result
-cast-result c = rw (toZ-ofZ (c .before .before .fits .z)) (omega (zarith, known (c .before .before .fits .z)), record { fits = omega (zarith, known (c .before .before .fits .z), abs-parts (c .before .before .args .z)) })
+cast-result c =
+    let s = c .before .before in
+    let small = known (s .fits .z) in
+    rw (toZ-ofZ (s .fits .z)) (omega (zarith, small), record { fits = omega (zarith, small, abs-parts (s .args .z)) })
 
 returns-3 : tie.Need-returns-3
-returns-3 c = rw (toZ-ofZ (c .before .before .fits .z)) (omega (zarith, known (c .before .before .fits .z), abs-parts (c .before .before .args .z), held-is (c .before .before .args .z)))
+returns-3 c =
+    let s = c .before .before in
+    rw (toZ-ofZ (s .fits .z)) (omega (zarith, known (s .fits .z), abs-parts (s .args .z), held-is (s .args .z)))
 
 pub held-to-unity-spec : {M : Type 1} → statement M
 held-to-unity-spec = tie.close (tie.spec returns returns-2 cast-result returns-3)

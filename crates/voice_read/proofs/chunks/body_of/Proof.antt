@@ -12,9 +12,16 @@ use Rattle.sheet.specs.Read.{bodyOf}
 use Rattle.voice_read.proofs.chunks.body_of.Statement.{statement}
 use Rattle.voice_read.proofs.chunks.body_of.Tie as tie
 
+-- where the chunk was looked for, and the function's entry
+abbrev looked-for : tie.After-known-told → tie.After-find
+looked-for c = c .before .before .before
+
+abbrev entry : tie.After-find → tie.Start
+entry c = c .before .before
+
 -- where the chunk lies
-lies : (c : tie.After-known-told) → let g = c .before .start .given .0 in Found (now (c .before .before .before .before .before .args .form)) body (At (g .0) (g .1 .0))
-lies c = rw (c .before .start .given .1) at (found _ _ _ (c .before .before .before .find .ensures))
+lies : (c : tie.After-known-told) → let g = c .before .start .given .0 in Found (now (entry (looked-for c) .args .form)) body (At (g .0) (g .1 .0))
+lies c = rw (entry, looked-for, c .before .start .given .1) at (found _ _ _ (looked-for c .find .ensures))
 
 find-requires : tie.Need-find-requires
 find-requires c κs = search needs
@@ -41,7 +48,9 @@ part-result-end : tie.Need-part-result-end
 part-result-end c = lies c .inside
 
 returns : tie.Need-returns
-returns c = ap bodyOf (rw (c .before .enum-told .given .1) at (found _ _ _ (c .before .before .before .find .ensures) .is))
+returns c =
+    let none = c .before in
+    ap bodyOf (rw (none .enum-told .given .1) at (found _ _ _ (none .before .before .find .ensures) .is))
 
 returns-2 : tie.Need-returns-2
 returns-2 c =

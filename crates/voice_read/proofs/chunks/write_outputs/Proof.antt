@@ -14,11 +14,23 @@ use Rattle.body_read.specs.Sides.{bodySides}
 use Rattle.voice_read.proofs.chunks.write_outputs.Statement.{statement}
 use Rattle.voice_read.proofs.chunks.write_outputs.Tie as tie
 
+-- where the sheet is put, and the function's entry
+abbrev sheet-put : tie.After-body-of → tie.After-put-sheet
+sheet-put c = c .before .before .before .before .before
+
+abbrev entry : tie.After-put-sheet → tie.Start
+entry c = c .before .before .before .before
+
+-- where the sides are decoded
+abbrev body-known : tie.After-decode-sides → tie.After-body-of
+body-known c = c .before .before .before
+
 -- the sides, by what was read of the FORM
-sides-are : (c : tie.After-body-of) → let items = itemsFrom (now (c .before .before .before .before .before .before .before .before .before .args .form)) 12 in
+sides-are : (c : tie.After-body-of) →
+    let items = itemsFrom (now (entry (sheet-put c) .args .form)) 12 in
     bodySides (c .before .before .header-of .result) (c .before .is-stereo .result) (now (c .body-of .result))
     ≡ bodySides (formVoice items .header) (isStereo (formVoice items .channel)) (bodyOf (firstOf body items))
-sides-are c = rw (c .before .before .header-of .ensures, c .before .is-stereo .ensures, c .body-of .ensures)
+sides-are c = rw (entry, sheet-put, c .before .before .header-of .ensures, c .before .is-stereo .ensures, c .body-of .ensures)
 
 put-sheet-requires : tie.Need-put-sheet-requires
 put-sheet-requires c κs = search needs
@@ -35,7 +47,7 @@ body-of-requires c κs = search needs
 decode-sides-requires : tie.Need-decode-sides-requires
 decode-sides-requires c κs =
     let s = c .before .before in
-    rw (sides-are s) (s .before .before .before .before .before .before .before .before .before .pre .2)
+    rw (sides-are s) (entry (sheet-put s) .pre .2)
 
 same-length : tie.Need-same-length
 same-length c = search needs
@@ -49,10 +61,9 @@ same-length-3 c = search needs
 returns : tie.Need-returns
 returns c =
     let d = c .before .before in
-    let s = d .before .before .before in
-    let p = s .before .before .before .before .before in
-    let start = p .before .before .before .before in
-    (put-front (start .pre .1) (p .put-sheet .ensures), rw (sides-are s) at (d .decode-sides .ensures))
+    let s = body-known d in
+    let p = sheet-put s in
+    (put-front (entry p .pre .1) (p .put-sheet .ensures), rw (sides-are s) at (d .decode-sides .ensures))
 
 pub write-outputs-spec : {M : Type 1} → statement M
 write-outputs-spec =

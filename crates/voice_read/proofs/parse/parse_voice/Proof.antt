@@ -9,9 +9,36 @@ use Rattle.voice_read.proofs.AnswerLaws.{Measured, lengths-refused, len
 use Rattle.voice_read.proofs.parse.parse_voice.Statement.{statement}
 use Rattle.voice_read.proofs.parse.parse_voice.Tie as tie
 
+-- the function's entry, from where the lengths are answered
+abbrev entry : tie.After-voice-lengths → tie.Start
+entry c = c .before .before .before
+
+abbrev answered : tie.After-known-told2 → tie.After-voice-lengths
+answered c = c .before .before .before
+
+abbrev refused : tie.After-known-told → tie.After-voice-lengths
+refused c = c .before .before .before
+
+-- the tests passed so far
+abbrev told : tie.Else1 → tie.After-known-told2
+told c = c .before .before
+
+abbrev sheet-fits : tie.Else2 → tie.Else1
+sheet-fits c = c .before .before
+
+abbrev left-fits : tie.Else3 → tie.Else2
+left-fits c = c .before .before
+
+-- where the FORM is known, and where its outputs are written
+abbrev form-known : tie.After-write-outputs-arg3 → tie.After-form
+form-known c = c .before .before .before
+
+abbrev written : tie.After-right → tie.After-write-outputs
+written c = c .before .before .before .before
+
 -- what is read has the lengths that were answered
-measured : (c : tie.After-known-told2) → Measured (readVoice (now (c .before .before .before .before .before .before .args .file))) (c .before .l .given .0 .0)
-measured c = lengths-given _ _ (sym (c .before .before .before .voice-lengths .ensures) ∙ c .before .l .given .1)
+measured : (c : tie.After-known-told2) → Measured (readVoice (now (entry (answered c) .args .file))) (c .before .l .given .0 .0)
+measured c = lengths-given _ _ (sym (answered c .voice-lengths .ensures) ∙ c .before .l .given .1)
 
 voice-lengths-requires : tie.Need-voice-lengths-requires
 voice-lengths-requires c κs = search needs
@@ -25,19 +52,19 @@ enum-known-l c = search needs
 returns : tie.Need-returns
 returns c =
     let k = c .before .before in
-    let a = k .before .before .before .before .before .before .args in
+    let a = entry (answered k) .args in
     sheet-short (readVoice (now (a .file))) (now (a .sheet)) (now (a .left)) (now (a .right)) (k .before .l .given .0 .0) (measured k) (c .if1 .taken)
 
 returns-2 : tie.Need-returns-2
 returns-2 c =
-    let k = c .before .before .before .before in
-    let a = k .before .before .before .before .before .before .args in
+    let k = told (c .before .before) in
+    let a = entry (answered k) .args in
     left-short (readVoice (now (a .file))) (now (a .sheet)) (now (a .left)) (now (a .right)) (k .before .l .given .0 .0) (measured k) (c .if2 .taken)
 
 returns-3 : tie.Need-returns-3
 returns-3 c =
-    let k = c .before .before .before .before .before .before in
-    let a = k .before .before .before .before .before .before .args in
+    let k = told (sheet-fits (c .before .before)) in
+    let a = entry (answered k) .args in
     right-short (readVoice (now (a .file))) (now (a .sheet)) (now (a .left)) (now (a .right)) (k .before .l .given .0 .0) (measured k) (c .if3 .taken)
 
 form-requires : tie.Need-form-requires
@@ -45,18 +72,20 @@ form-requires c κs = search needs
 
 write-outputs-requires : tie.Need-write-outputs-requires
 write-outputs-requires c κs =
-    let d = c .before .before .before in
-    let e = d .before in
-    let k = e .before .before .before .before .before .before in
-    let a = k .before .before .before .before .before .before .args in
-    outputs-room (now (a .file)) (k .before .l .given .0 .0) (measured k) (now (d .form .result)) (d .form .ensures .0) (d .form .ensures .1 .0) (length (now (a .sheet))) (length (now (a .left))) (length (now (a .right)))
-    (e .before .before .before .before .if1 .left) (e .before .before .if2 .left) (e .if3 .left)
+    let d = form-known c in
+    let right = d .before in
+    let left = left-fits right in
+    let sheet = sheet-fits left in
+    let k = told sheet in
+    let a = entry (answered k) .args in
+    outputs-room (now (a .file)) (k .before .l .given .0 .0) (measured k) (now (d .form .result)) (d .form .ensures .0) (d .form .ensures .1 .0)
+    (length (now (a .sheet))) (length (now (a .left))) (length (now (a .right))) (sheet .if1 .left) (left .if2 .left) (right .if3 .left)
 
 returns-4 : tie.Need-returns-4
 returns-4 c =
-    let a = c .before .before .before .before .before .before .args in
+    let a = entry (refused c) .args in
     answer-refused (readVoice (now (a .file))) (now (a .sheet)) (now (a .left)) (now (a .right)) (c .before .number .given .0 .0)
-    (lengths-refused _ _ (sym (c .before .before .before .voice-lengths .ensures) ∙ c .before .number .given .1))
+    (lengths-refused _ _ (sym (refused c .voice-lengths .ensures) ∙ c .before .number .given .1))
 
 same-length : tie.Need-same-length
 same-length c = search needs
@@ -69,14 +98,16 @@ same-length-3 c = search needs
 
 returns-5 : tie.Need-returns-5
 returns-5 c =
-    let w = c .before .before .before .before in
-    let d = w .before .before .before .before in
-    let e = d .before in
-    let k = e .before .before .before .before .before .before in
-    let a = k .before .before .before .before .before .before .args in
+    let w = written c in
+    let d = form-known (w .before) in
+    let right = d .before in
+    let left = left-fits right in
+    let sheet = sheet-fits left in
+    let k = told sheet in
+    let a = entry (answered k) .args in
     let o = w .write-outputs .ensures in
     outputs-written (now (a .file)) (k .before .l .given .0 .0) (measured k) (now (d .form .result)) (d .form .ensures .0) (now (a .sheet)) _ (now (a .left)) _ (now (a .right)) _
-    (e .before .before .before .before .if1 .left) (e .before .before .if2 .left) (e .if3 .left) (o .0) (o .1 .0) (o .1 .1)
+    (sheet .if1 .left) (left .if2 .left) (right .if3 .left) (o .0) (o .1 .0) (o .1 .1)
 
 pub parse-voice-spec : {M : Type 1} → statement M
 parse-voice-spec =

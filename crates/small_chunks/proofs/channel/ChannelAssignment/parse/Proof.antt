@@ -22,8 +22,10 @@ from-raw-requires c κs = search needs
 
 returns-2 : tie.Need-returns-2
 returns-2 c =
-    let long : 4 ≤ length (now (c .before .before .before .before .args .body)) = omega arith in
-    simp (le-ltb _ _ long, c .from-raw .ensures, c .before .read32 .ensures)
+    let read = c .before in
+    let enough = read .before in
+    let long : 4 ≤ length (now (enough .before .before .args .body)) = omega arith in
+    simp (le-ltb _ _ long, c .from-raw .ensures, read .read32 .ensures)
 
 pub parse-spec : {M : Type 1} → statement M
 parse-spec = tie.close (tie.spec returns read32-requires from-raw-requires returns-2)

@@ -37,8 +37,9 @@ held-to-unity-requires c κs = search needs
 int-to-float-left : tie.Need-int-to-float-left
 unfolding inFloat
 int-to-float-left c =
-    let small : c .before .held-to-unity .result ≤ 2 ^ 24 = omega (arith, held-le (c .before .before .before .args .self .position), said (c .before)) in
-    le→leb (c .before .held-to-unity .result) (2 ^ 24) small
+    let held = c .before in
+    let small : held .held-to-unity .result ≤ 2 ^ 24 = omega (arith, held-le (held .before .before .args .self .position), said held) in
+    le→leb (held .held-to-unity .result) (2 ^ 24) small
 
 returns : tie.Need-returns
 returns c = simp (said (c .before), one, full)

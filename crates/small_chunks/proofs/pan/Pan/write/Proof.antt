@@ -18,8 +18,9 @@ bytes32-requires c κs = search needs
 returns : tie.Need-returns
 unfolding panBytes
 returns c =
-    let position-fits : SFits w32 (c .before .before .before .args .self .position) = search needs in
-    c .bytes32 .ensures ∙ rw (c .before .bits-of-i32 .ensures, toZ-ofZ position-fits)
+    let known = c .before in
+    let position-fits : SFits w32 (known .before .before .args .self .position) = search needs in
+    c .bytes32 .ensures ∙ rw (known .bits-of-i32 .ensures, toZ-ofZ position-fits)
 
 pub write-spec : {M : Type 1} → statement M
 write-spec = tie.close (tie.spec bits-of-i32-requires bytes32-requires returns)

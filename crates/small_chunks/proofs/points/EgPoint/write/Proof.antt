@@ -14,6 +14,10 @@ use Rattle.small_chunks.proofs.FieldLaws.{point-length}
 use Rattle.small_chunks.proofs.points.EgPoint.write.Statement.{statement}
 use Rattle.small_chunks.proofs.points.EgPoint.write.Tie as tie
 
+-- where the duration is stored, from where the destination's bits are known
+abbrev duration-put : tie.After-bits-of-i32 → tie.After-put16
+duration-put c = c .before .before .before .before
+
 slice-aggregate-put16 : tie.Need-slice-aggregate-put16
 slice-aggregate-put16 c = search needs
 
@@ -27,15 +31,17 @@ bits-of-i32-requires : tie.Need-bits-of-i32-requires
 bits-of-i32-requires c κs = search needs
 
 put32-requires : tie.Need-put32-requires
-put32-requires c κs = omega (arith, simp bytes-length at (c .before .before .before .before .put16 .ensures .end))
+put32-requires c κs = omega (arith, simp bytes-length at (duration-put c .put16 .ensures .end))
 
 returns : tie.Need-returns
 unfolding pointBytes
 returns c =
-    let s = c .before .before .before .before .before .before .before .before in
+    let known = c .before .before in
+    let first = duration-put known in
+    let s = first .before .before in
     let dest-fits : SFits w32 (s .args .self .dest) = search needs in
-    let bits : c .before .before .bits-of-i32 .result ≡ bits32 (s .args .self .dest) = c .before .before .bits-of-i32 .ensures ∙ ap bits32 (toZ-ofZ dest-fits) in
-    put-whole (sym (point-length _)) (put-then (c .before .before .before .before .before .before .put16 .ensures) (rw bits at (c .before .put32 .ensures)))
+    let bits : known .bits-of-i32 .result ≡ bits32 (s .args .self .dest) = known .bits-of-i32 .ensures ∙ ap bits32 (toZ-ofZ dest-fits) in
+    put-whole (sym (point-length _)) (put-then (first .put16 .ensures) (rw bits at (c .before .put32 .ensures)))
 
 pub write-spec : {M : Type 1} → statement M
 write-spec =

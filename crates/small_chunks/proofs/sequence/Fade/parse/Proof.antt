@@ -19,7 +19,8 @@ read-fade-requires c κs = search needs
 
 returns-2 : tie.Need-returns-2
 returns-2 c =
-    let long : 4 ≤ length (now (c .before .before .before .args .body)) = omega arith in
+    let enough = c .before in
+    let long : 4 ≤ length (now (enough .before .before .args .body)) = omega arith in
     simp (le-ltb _ _ long, c .read-fade .ensures)
 
 pub parse-spec : {M : Type 1} → statement M

@@ -10,6 +10,10 @@ use Rattle.small_chunks.proofs.FieldLaws.{segment-length}
 use Rattle.small_chunks.proofs.sequence.SeqnSegment.write.Statement.{statement}
 use Rattle.small_chunks.proofs.sequence.SeqnSegment.write.Tie as tie
 
+-- where the start is stored, from where the end is
+abbrev start-put : tie.After-put322 → tie.After-put32
+start-put c = c .before .before .before
+
 slice-aggregate-put32 : tie.Need-slice-aggregate-put32
 slice-aggregate-put32 c = search needs
 
@@ -24,7 +28,9 @@ put32-requires-2 c κs = omega (arith, simp bytes-length at (c .before .before .
 
 returns : tie.Need-returns
 unfolding segmentBytes
-returns c = put-whole (sym (segment-length _)) (put-then (c .before .before .before .before .put32 .ensures) (c .before .put322 .ensures))
+returns c =
+    let second = c .before in
+    put-whole (sym (segment-length _)) (put-then (start-put second .put32 .ensures) (second .put322 .ensures))
 
 pub write-spec : {M : Type 1} → statement M
 write-spec =
