@@ -99,7 +99,8 @@ module _ (sheet : List ℕ) (s : Sides) (n : Note) where
     part-places = length-take-le size (drop at d) (omega (arith, length-drop at d)) ∙ is ∙ sym (length-replicate places (pos 0))
 
     stored-by : (o : Outcome (List Frame)) → ((block : List Frame) → o ≡ gives block → length (interleaved block) ≡ size)
-        → take at d ++ (fillLeaves o n (take size (drop at d)) .buffer ++ drop size (drop at d)) ≡ sets d at (acceptedBlock (fillLeaves o n (zeros places) .answer) (fillLeaves o n (zeros places) .buffer))
+        → take at d ++ (fillLeaves o n (take size (drop at d)) .buffer ++ drop size (drop at d))
+        ≡ sets d at (acceptedBlock (fillLeaves o n (zeros places) .answer) (fillLeaves o n (zeros places) .buffer))
     stored-by (gives block) long =
         let fits : at + length (interleaved block) ≤ length d = omega (arith, long block refl) in
         rw (sets-eq (interleaved block) d at fits, long block refl, drop-drop size at d) (sym (append-assoc (take at d) (interleaved block) (drop (at + size) d)))
