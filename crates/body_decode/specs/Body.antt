@@ -1,4 +1,4 @@
--- A whole BODY as byTurns bytes, at most so many frames of it.
+-- A whole BODY as interleaved bytes, at most so many frames of it.
 use Prim.Native.Nat.{ℕ}
 use mathlib.Core.Bool.{cond}
 use mathlib.Core.List.{List, [], _∷_, map}

@@ -1,4 +1,4 @@
-// A whole BODY decoded to byTurns bytes.
+// A whole BODY decoded to interleaved bytes.
 use fibonacci::fib_step;
 use header::Compression;
 use header::KnownCompression;
@@ -183,7 +183,7 @@ fn decode_two(body: &[u8], c: Compression, frames: usize, out: &mut [u8]) -> Out
     }
 }
 
-// BODY as byTurns bytes, at most `frames` of each channel, given the compression as its header byte. 0 channels count as
+// BODY as interleaved bytes, at most `frames` of each channel, given the compression as its header byte. 0 channels count as
 // 1, more than 2 as 2. Refused by 10, 11, 12 and 20, in that order.
 pub fn decode_body(
     body: &[u8],

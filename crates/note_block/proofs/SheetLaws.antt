@@ -17,7 +17,8 @@ use Rattle.sheet.specs.Read.{readSheet}
 use Rattle.sheet.specs.declared.judge.Judged.the-variants.{Sound}
 use Rattle.sheet_layout.specs.Answers.{sequenceAnswer}
 use Rattle.sheet_layout.specs.Layout.{layoutOf}
-use Rattle.sheet_layout.specs.Members.{joined, between, pointsIn, segmentsIn, Whole}
+use Rattle.sheet_layout.specs.Joined.{joined}
+use Rattle.sheet_layout.specs.Members.{between, pointsIn, segmentsIn, Whole}
 use Rattle.sheet_layout.specs.declared.Layout.{Layout}
 use Rattle.sheet_layout.specs.declared.MaybeSequence.{MaybeSequence}
 use Rattle.sheet_layout.proofs.PointLaws.{places, attack-points, attacks-whole, release-points, releases-whole}

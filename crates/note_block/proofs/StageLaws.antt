@@ -7,7 +7,8 @@ use mathlib.Core.Path.{_≡_, refl, sym, ap, _∙_}
 use lib.IntN.{ℤ, pos}
 use lib.ListN.{length}
 use Rattle.sheet.specs.Voice.{Voice}
-use Rattle.sheet_layout.specs.Members.{joined, pointsIn}
+use Rattle.sheet_layout.specs.Joined.{joined}
+use Rattle.sheet_layout.specs.Members.{pointsIn}
 use Rattle.note_path.specs.Path.{pathOf}
 use Rattle.note_path.specs.Run.{placeOf}
 use Rattle.note_path.specs.declared.run.Path.{Path}

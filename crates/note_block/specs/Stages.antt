@@ -1,4 +1,4 @@
--- What the code takes from the sheet for a block.
+-- What the code takes from the sheet for a block; no reader of the definition of a frame needs it.
 use Prim.Native.Nat.{ℕ}
 use mathlib.Core.Bool.{Bool, true, false}
 use mathlib.Core.List.{List}

@@ -1,4 +1,5 @@
--- What a place in an envelope stands for: the points from it on, and the level and the time that they start from.
+-- What the code carries along an envelope; no reader of the meanings needs it. A place in it stands for the points from it on, and the
+-- level and the time that they start from.
 use Prim.Native.Nat.{ℕ, _+_, _-_, _≤_}
 use mathlib.Core.List.{List}
 use mathlib.Core.Path.{_≡_}

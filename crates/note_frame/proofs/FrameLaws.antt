@@ -18,7 +18,7 @@ use Rattle.small_chunks.specs.Pan.{heldToUnity}
 use Rattle.envelope.specs.Envelope.{levelAt, totalDuration}
 use Rattle.sheet.specs.Voice.{Voice}
 use Rattle.body_read.specs.Sides.{Sides}
-use Rattle.sheet_layout.specs.Members.{joined}
+use Rattle.sheet_layout.specs.Joined.{joined}
 use Rattle.note_path.specs.Path.{pathOf}
 use Rattle.note_frame.specs.Gains.{gainsOf, frameWith}
 use Rattle.note_frame.specs.declared.chain.Frame.{Frame}

@@ -14,7 +14,7 @@ use Rattle.small_chunks.specs.declared.sequence.SeqnSegment.{SeqnSegment}
 use Rattle.envelope.specs.Level.{scaledBy}
 use Rattle.envelope.specs.Envelope.{levelAt, totalDuration}
 use Rattle.sheet.specs.Voice.{Voice, isStereo}
-use Rattle.sheet_layout.specs.Members.{joined}
+use Rattle.sheet_layout.specs.Joined.{joined}
 use Rattle.body_read.specs.Sides.{Sides}
 use Rattle.note_path.specs.Path.{pathOf, joinedLength}
 use Rattle.note_frame.specs.Shares.{sharesOf}

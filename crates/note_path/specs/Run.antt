@@ -1,4 +1,5 @@
--- A path in numbers, and a run: a stretch of the path whose samples lie side by side.
+-- What the code carries along a path, and asks of it; no reader of the meanings needs it. A path in numbers, and a run: a stretch of the
+-- path whose samples lie side by side.
 use Prim.Native.Nat.{ℕ, _+_, _-_, _*_, _≤_, _<_, _^_}
 use mathlib.Core.Bool.{Bool, true, cond}
 use mathlib.Core.List.{List, [], _∷_}

@@ -18,7 +18,8 @@ use Rattle.small_chunks.proofs.FieldLaws.{point-length, point-back, segment-len
 use Rattle.sheet.specs.Flat.{ifThere, flatPoint, flatEnvelope, flatSegment, flatSequence}
 use Rattle.sheet.specs.Allowed.{All, PointFits, SegmentFits}
 use Rattle.sheet_grammar.proofs.ListLaws.{all-append, map-back}
-use Rattle.sheet_layout.specs.Members.{joined, firstMember, membersIn, pointsIn, segmentsIn, Whole}
+use Rattle.sheet_layout.specs.Joined.{joined}
+use Rattle.sheet_layout.specs.Members.{firstMember, membersIn, pointsIn, segmentsIn, Whole}
 
 module _ (member n : ℕ) where
   pub none-left : membersIn member n [] ≡ []

@@ -21,7 +21,8 @@ use Rattle.sheet.specs.Judge.{judged}
 use Rattle.sheet.specs.Read.{readSheet}
 use Rattle.sheet.specs.declared.judge.Judged.the-variants.{Sound}
 use Rattle.sheet_layout.specs.Layout.{attacksAt, releasesAt, sequenceAt, fadeAt}
-use Rattle.sheet_layout.specs.Members.{joined, between, pointsIn, segmentsIn, Whole}
+use Rattle.sheet_layout.specs.Joined.{joined}
+use Rattle.sheet_layout.specs.Members.{between, pointsIn, segmentsIn, Whole}
 use Rattle.sheet_layout.proofs.MemberLaws.{none-left, envelope-points, envelope-whole, sequence-segments, segments-whole}
 use Rattle.sheet_layout.proofs.PartLaws.{attacksPart, fromReleases, releasesPart, fromSequence, sequencePart, fromFade, at-attacks, at-releases, at-sequence}
 use Rattle.sheet_layout.proofs.PlaceLaws.{places-within}

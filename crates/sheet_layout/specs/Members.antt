@@ -3,7 +3,7 @@
 use Prim.Native.Nat.{ℕ, suc, _+_, _-_}
 use mathlib.Core.Bool.{cond}
 use mathlib.Core.Path.{_≡_}
-use mathlib.Core.List.{List, [], _∷_, _++_, map}
+use mathlib.Core.List.{List, [], _∷_, map}
 use lib.Dec.{eqb}
 use lib.ListN.{length, take, drop}
 use Rattle.laws.specs.Walk.{Front, more, last, walk}
@@ -12,11 +12,7 @@ use Rattle.small_chunks.specs.Envelope.{pointOf}
 use Rattle.small_chunks.specs.Sequence.{segmentOf}
 use Rattle.small_chunks.specs.declared.points.EgPoint.{EgPoint}
 use Rattle.small_chunks.specs.declared.sequence.SeqnSegment.{SeqnSegment}
-
--- lists joined
-abbrev pub joined : {A : Type 0} → List (List A) → List A
-joined [] = []
-joined (l ∷ ls) = l ++ joined ls
+use Rattle.sheet_layout.specs.Joined.{joined}
 
 -- the bytes from one place up to another
 abbrev pub between : ℕ → ℕ → List ℕ → List ℕ
