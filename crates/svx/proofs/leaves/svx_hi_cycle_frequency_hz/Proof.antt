@@ -25,7 +25,9 @@ enum-told : tie.Need-enum-told
 enum-told c = search needs
 
 returns : tie.Need-returns
-returns c = sym (ap frequencyOf (asked (c .before .before .before) ∙ c .before .hertz .given .1))
+returns c =
+    let answered = c .before .before .before in
+    sym (ap frequencyOf (asked answered ∙ c .before .hertz .given .1))
 
 returns-2 : tie.Need-returns-2
 unfolding ofBits ofInt

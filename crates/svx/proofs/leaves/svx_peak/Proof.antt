@@ -18,7 +18,9 @@ returns : tie.Need-returns
 returns c = (rw (c .enum-told .given .1) at (c .before .before .peak .ensures), refl, refl)
 
 returns-2 : tie.Need-returns-2
-returns-2 c = rw (c .before .magnitude .given .1) at (c .before .before .before .peak .ensures)
+returns-2 c =
+    let found = c .before .before .before .peak .ensures in
+    rw (c .before .magnitude .given .1) at found
 
 pub svx-peak-spec : {M : Type 1} → statement M
 svx-peak-spec = tie.close (tie.spec peak-requires enum-told enum-known-magnitude returns returns-2)

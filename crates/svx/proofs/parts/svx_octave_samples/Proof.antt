@@ -27,7 +27,9 @@ enum-told : tie.Need-enum-told
 enum-told c = search needs
 
 returns : tie.Need-returns
-returns c = sym (ap countOf (asked (c .before .before .before) ∙ c .before .n .given .1))
+returns c =
+    let answered = c .before .before .before in
+    sym (ap countOf (asked answered ∙ c .before .n .given .1))
 
 returns-2 : tie.Need-returns-2
 returns-2 c = sym (ap countOf (asked (c .before .before) ∙ c .enum-told .given .1))

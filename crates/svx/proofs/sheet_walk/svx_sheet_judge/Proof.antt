@@ -22,7 +22,9 @@ returns : tie.Need-returns
 returns c = sym (ap judgedNumber (sym (c .before .before .judge-sheet .ensures) ∙ c .enum-told .given .1))
 
 returns-2 : tie.Need-returns-2
-returns-2 c = sym (ap judgedNumber (sym (c .before .before .before .judge-sheet .ensures) ∙ c .before .number .given .1))
+returns-2 c =
+    let verdict = c .before .before .before .judge-sheet .ensures in
+    sym (ap judgedNumber (sym verdict ∙ c .before .number .given .1))
 
 pub svx-sheet-judge-spec : {M : Type 1} → statement M
 svx-sheet-judge-spec =

@@ -35,10 +35,14 @@ no-record-requires-3 : tie.Need-no-record-requires-3
 no-record-requires-3 c κs = search needs
 
 returns-2 : tie.Need-returns-2
-returns-2 c = sym (ap recordOf (sym (c .before .before .before .record-at .ensures) ∙ c .before .kind .given .1))
+returns-2 c =
+    let step = c .before .before .before .record-at .ensures in
+    sym (ap recordOf (sym step ∙ c .before .kind .given .1))
 
 returns-3 : tie.Need-returns-3
-returns-3 c = c .no-record .ensures ∙ sym (ap recordOf (sym (c .before .before .before .record-at .ensures) ∙ c .before .enum-told .given .1))
+returns-3 c =
+    let step = c .before .before .before .record-at .ensures in
+    c .no-record .ensures ∙ sym (ap recordOf (sym step ∙ c .before .enum-told .given .1))
 
 returns-4 : tie.Need-returns-4
 returns-4 c =

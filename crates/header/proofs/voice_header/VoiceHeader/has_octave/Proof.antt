@@ -37,7 +37,8 @@ returns-3 : tie.Need-returns-3
 returns-3 c =
     let a = c .before .before .before .before .before .args in
     let some : max (a .self .«ct_octave») 1 ≡ a .self .«ct_octave» = omega (arith, c .before .if2 .left) in
-    sym (several (c .before .before .before) ∙ ap (ltb (a .k)) some)
+    let some-samples = c .before .before .before in
+    sym (several some-samples ∙ ap (ltb (a .k)) some)
 
 pub has-octave-spec : {M : Type 1} → statement M
 has-octave-spec = tie.close (tie.spec hi-octave-samples-requires returns returns-2 returns-3)

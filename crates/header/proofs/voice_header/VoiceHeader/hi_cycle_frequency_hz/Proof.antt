@@ -18,7 +18,9 @@ int-to-float-per-cycle : tie.Need-int-to-float-per-cycle
 int-to-float-per-cycle c = search needs
 
 returns-3 : tie.Need-returns-3
-returns-3 c = simp (ne-eqb _ _ (c .before .before .before .before .if1 .left), ne-eqb _ _ (c .before .before .if2 .left))
+returns-3 c =
+    let rate-tested = c .before .before .before .before in
+    simp (ne-eqb _ _ (rate-tested .if1 .left), ne-eqb _ _ (c .before .before .if2 .left))
 
 pub hi-cycle-frequency-hz-spec : {M : Type 1} → statement M
 hi-cycle-frequency-hz-spec =

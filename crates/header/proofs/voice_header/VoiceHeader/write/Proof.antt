@@ -29,7 +29,7 @@ slice-aggregate-put32-3 : tie.Need-slice-aggregate-put32-3
 slice-aggregate-put32-3 c = search needs
 
 at-8 : (c : tie.After-out5) → c .before .before .put322 .result ≡ 8
-at-8 c = omega (arith, at-4 (c .before .before .before), simp bytes-length at (c .before .before .put322 .ensures .end))
+at-8 c = let stored = c .before .before .before in omega (arith, at-4 stored, simp bytes-length at (c .before .before .put322 .ensures .end))
 
 put32-requires-3 : tie.Need-put32-requires-3
 put32-requires-3 c κs = omega (arith, at-8 c)
@@ -38,7 +38,7 @@ slice-aggregate-put16 : tie.Need-slice-aggregate-put16
 slice-aggregate-put16 c = search needs
 
 at-12 : (c : tie.After-out7) → c .before .before .put323 .result ≡ 12
-at-12 c = omega (arith, at-8 (c .before .before .before), simp bytes-length at (c .before .before .put323 .ensures .end))
+at-12 c = let stored = c .before .before .before in omega (arith, at-8 stored, simp bytes-length at (c .before .before .put323 .ensures .end))
 
 put16-requires : tie.Need-put16-requires
 put16-requires c κs = omega (arith, at-12 c)
@@ -47,7 +47,7 @@ slice-aggregate-put-byte : tie.Need-slice-aggregate-put-byte
 slice-aggregate-put-byte c = search needs
 
 at-14 : (c : tie.After-out9) → c .before .before .put16 .result ≡ 14
-at-14 c = omega (arith, at-12 (c .before .before .before), simp bytes-length at (c .before .before .put16 .ensures .end))
+at-14 c = let stored = c .before .before .before in omega (arith, at-12 stored, simp bytes-length at (c .before .before .put16 .ensures .end))
 
 put-byte-requires : tie.Need-put-byte-requires
 put-byte-requires c κs = omega (arith, at-14 c)
@@ -56,7 +56,7 @@ slice-aggregate-put-byte-2 : tie.Need-slice-aggregate-put-byte-2
 slice-aggregate-put-byte-2 c = search needs
 
 at-15 : (c : tie.After-out11) → c .before .before .put-byte .result ≡ 15
-at-15 c = omega (arith, at-14 (c .before .before .before), c .before .before .put-byte .ensures .end)
+at-15 c = let stored = c .before .before .before in omega (arith, at-14 stored, c .before .before .put-byte .ensures .end)
 
 put-byte-requires-2 : tie.Need-put-byte-requires-2
 put-byte-requires-2 c κs = omega (arith, at-15 c)
@@ -65,7 +65,7 @@ slice-aggregate-put32-4 : tie.Need-slice-aggregate-put32-4
 slice-aggregate-put32-4 c = search needs
 
 at-16 : (c : tie.After-out13) → c .before .before .put-byte2 .result ≡ 16
-at-16 c = omega (arith, at-15 (c .before .before .before), c .before .before .put-byte2 .ensures .end)
+at-16 c = let stored = c .before .before .before in omega (arith, at-15 stored, c .before .before .put-byte2 .ensures .end)
 
 put32-requires-4 : tie.Need-put32-requires-4
 put32-requires-4 c κs = omega (arith, at-16 c)
