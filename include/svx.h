@@ -25,7 +25,7 @@
  * 16  a record's kind, order or value is wrong, or the sheet has no header
  * 17  a text isn't UTF-8
  * 18  the sample lengths don't suit the header and CHAN
- * 19  the FORM would be longer than 4,294,967,295 bytes
+ * 19  the length of the FORM or RIFF would be above 4,294,967,295
  * 20  an output buffer is too short
  * 21  a SEQN segment isn't on multiples of 4, runs backwards or ends past the highest octave
  * 22  there is a SEQN beside a one-shot part
@@ -36,6 +36,7 @@
  * 32  the step is 0 or above 16,777,216
  * 33  the output rate is 0 or above 192,000
  * 34  the key-up frame is later than the frames filled
+ * 41  the voice's rate is 0
  * } refusals.txt
  */
 #ifndef SVX_H
@@ -70,6 +71,20 @@ uint32_t svx_file_length(const uint8_t *sheet, size_t sheet_len, const int8_t *l
  * Refused by 15 to 17, then 10, 13, 18, 19, 20 in that order. */
 uint32_t svx_encode_voice(const uint8_t *sheet, size_t sheet_len, const int8_t *left, size_t left_len, const int8_t *right,
                           size_t right_len, uint8_t *file, size_t file_len, uint64_t *length);
+
+/* Octaves as sound files. An octave is a RIFF WAVE of 8-bit PCM at the voice's rate. Its data begin at byte 44, of two channels (CHAN 6)
+ * left and right by turns; each value is the sample plus 128, so that -2 becomes 126. Odd data are padded by a byte 0, which only the
+ * length of the RIFF counts. If one-shot and repeat part are both 0, octave 0 is all the samples, and there is no other. */
+
+/* The length that writing octave `octave`, of which 0 is the highest, as a WAVE needs.
+ * Refused as writing it is, but never by 20. */
+uint32_t svx_octave_wave_length(const uint8_t *sheet, size_t sheet_len, const int8_t *left, size_t left_len, const int8_t *right,
+                                size_t right_len, uint8_t octave, uint64_t *length);
+
+/* Writes an octave of a voice as a WAVE and gives its length; one of no samples has 44 bytes.
+ * Refused by 15 to 17, then 10, 13, 18, 31, 41, 19, 20 in that order. */
+uint32_t svx_octave_wave(const uint8_t *sheet, size_t sheet_len, const int8_t *left, size_t left_len, const int8_t *right,
+                         size_t right_len, uint8_t octave, uint8_t *file, size_t file_len, uint64_t *length);
 
 /* Notes. A note is a value: each call takes it and gives the note after it, and what a host keeps of it is all there is to keep. The same
  * calls give the same frames, however the frames are cut into blocks. */
@@ -225,7 +240,7 @@ static inline const char *svx_refusal_text(uint32_t number) {
     case 16: return "a record's kind, order or value is wrong, or the sheet has no header";
     case 17: return "a text isn't UTF-8";
     case 18: return "the sample lengths don't suit the header and CHAN";
-    case 19: return "the FORM would be longer than 4,294,967,295 bytes";
+    case 19: return "the length of the FORM or RIFF would be above 4,294,967,295";
     case 20: return "an output buffer is too short";
     case 21: return "a SEQN segment isn't on multiples of 4, runs backwards or ends past the highest octave";
     case 22: return "there is a SEQN beside a one-shot part";
@@ -236,6 +251,7 @@ static inline const char *svx_refusal_text(uint32_t number) {
     case 32: return "the step is 0 or above 16,777,216";
     case 33: return "the output rate is 0 or above 192,000";
     case 34: return "the key-up frame is later than the frames filled";
+    case 41: return "the voice's rate is 0";
     /* } refusals.txt */
     default: return "unknown refusal";
     }

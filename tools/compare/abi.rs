@@ -57,6 +57,23 @@ pub fn encode_voice(sheet: &[u8], left: &[i8], right: &[i8], file: &mut [u8]) ->
     one(r, n)
 }
 
+pub fn octave_wave_length(sheet: &[u8], left: &[i8], right: &[i8], octave: u8) -> Result<usize, u32> {
+    let mut n = UNSET;
+    let r = unsafe {
+        svx_octave_wave_length(sheet.as_ptr(), sheet.len(), left.as_ptr(), left.len(), right.as_ptr(), right.len(), octave, &mut n)
+    };
+    one(r, n)
+}
+
+pub fn octave_wave(sheet: &[u8], left: &[i8], right: &[i8], octave: u8, file: &mut [u8]) -> Result<usize, u32> {
+    let mut n = UNSET;
+    let r = unsafe {
+        svx_octave_wave(sheet.as_ptr(), sheet.len(), left.as_ptr(), left.len(), right.as_ptr(), right.len(), octave,
+            file.as_mut_ptr(), file.len(), &mut n)
+    };
+    one(r, n)
+}
+
 pub fn decode_body(body: &[u8], compression: u8, channels: u16, frames: u64, out: &mut [u8]) -> Result<usize, u32> {
     let mut n = UNSET;
     let r = unsafe { svx_decode_body(body.as_ptr(), body.len(), compression, channels, frames, out.as_mut_ptr(), out.len(), &mut n) };

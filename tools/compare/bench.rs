@@ -5,7 +5,7 @@ use oracle::svx::{self, ChannelAssignment, ChannelSamples, Voice, VoiceHeader};
 use std::hint::black_box;
 use std::time::Instant;
 
-fn voice(r: &mut make::Rng, samples: usize, stereo: bool, compression: u8) -> Voice {
+pub fn voice(r: &mut make::Rng, samples: usize, stereo: bool, compression: u8) -> Voice {
     let h = VoiceHeader { one_shot_hi_samples: samples as u32, repeat_hi_samples: 0, samples_per_hi_cycle: 0, samples_per_sec: 8000, ct_octave: 1, compression_byte: compression, volume: 65536 };
     let count = if stereo { 2 } else { 1 };
     let channels = (0..count).map(|_| ChannelSamples { octaves: vec![walk(r, samples)] }).collect();
@@ -20,7 +20,7 @@ fn walk(r: &mut make::Rng, n: usize) -> Vec<i8> {
 }
 
 /// Seconds of the best of some passes.
-fn best(passes: u32, times: u32, mut f: impl FnMut()) -> f64 {
+pub fn best(passes: u32, times: u32, mut f: impl FnMut()) -> f64 {
     (0..passes).map(|_| { let t = Instant::now(); for _ in 0..times { f(); } t.elapsed().as_secs_f64() / times as f64 }).fold(f64::MAX, f64::min)
 }
 

@@ -1,5 +1,5 @@
 //! Files read and written by the library alone, to be held against another program's.
-use crate::{encode, parse};
+use crate::{encode, parse, wave};
 use std::fs;
 
 pub fn raw(file: &str, out: &str) {
@@ -15,4 +15,9 @@ pub fn raw(file: &str, out: &str) {
 pub fn rewrite(file: &str, out: &str) {
     let (sheet, left, right) = parse::library(&fs::read(file).expect("a file")).expect("accepted");
     fs::write(out, encode::library(&sheet, &left, &right).expect("accepted")).expect("written");
+}
+
+pub fn wave(file: &str, out: &str, octave: u8) {
+    let (sheet, left, right) = parse::library(&fs::read(file).expect("a file")).expect("accepted");
+    fs::write(out, wave::library(&sheet, &left, &right, octave).expect("accepted")).expect("written");
 }

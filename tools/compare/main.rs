@@ -4,11 +4,14 @@
 //!     compare encode N [SEED]    voices: refusal or file
 //!     compare parts N [SEED]     codecs, octaves, loops, levels, floats
 //!     compare note N [SEED]      notes: fills and key-ups against a plain note, written from the specification (plain_note.rs)
+//!     compare wave N [SEED]      octaves as WAVE files against a plain version (plain_wave.rs), and taken apart again
 //!     compare list               the fixed list that the gate replays, on standard output (see list.rs)
-//!     compare bench              speed against the original and, for notes, against the plain note
+//!     compare bench              speed against the original and, for notes and WAVE files, against the plain versions
 //!     compare note-bench         the notes alone
+//!     compare wave-bench         the WAVE files alone
 //!     compare raw FILE OUT       a file's samples as the library reads them, interleaved (for sox.sh)
 //!     compare rewrite FILE OUT   a file read and written again by the library (for sox.sh)
+//!     compare wave-file FILE OUT K  octave K of a file as a WAVE file (for wave.sh)
 mod abi;
 mod bench;
 #[path = "../../host/svx/src/c.rs"]
@@ -22,7 +25,11 @@ mod note_bench;
 mod parse;
 mod parts;
 mod plain_note;
+mod plain_wave;
 mod rust_side;
+mod wave;
+mod wave_bench;
+mod wave_large;
 
 fn main() {
     let args: Vec<String> = std::env::args().skip(1).collect();
@@ -32,13 +39,16 @@ fn main() {
         Some("encode") => encode::run(number(1, 1_000_000), number(2, 1)),
         Some("parts") => parts::run(number(1, 1_000_000), number(2, 1)),
         Some("note") => note::run(number(1, 1_000_000), number(2, 1)),
+        Some("wave") => wave::run(number(1, 1_000_000), number(2, 1)),
         Some("list") => list::run(args.get(1).expect("a folder to write to")),
-        Some("bench") => { bench::run(); note_bench::run(); }
+        Some("bench") => { bench::run(); note_bench::run(); wave_bench::run(); }
         Some("note-bench") => note_bench::run(),
+        Some("wave-bench") => wave_bench::run(),
         Some("raw") => files::raw(&args[1], &args[2]),
         Some("rewrite") => files::rewrite(&args[1], &args[2]),
+        Some("wave-file") => files::wave(&args[1], &args[2], number(3, 0).try_into().expect("an octave")),
         _ => {
-            eprintln!("usage: compare parse|encode|parts|note N [SEED] | list FOLDER | bench | note-bench | raw|rewrite FILE OUT");
+            eprintln!("usage: compare parse|encode|parts|note|wave N [SEED] | list FOLDER | bench | note-bench | wave-bench | raw|rewrite FILE OUT | wave-file FILE OUT K");
             std::process::exit(2);
         }
     }

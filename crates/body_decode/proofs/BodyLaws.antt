@@ -21,8 +21,9 @@ use Rattle.header.specs.declared.compression.KnownCompression.the-variants.{Kno
 use Rattle.fibonacci.specs.Decode.{fibSamples}
 use Rattle.samples.specs.Stream.{stream}
 use Rattle.samples.specs.Halves.{leftHalf, rightHalf}
-use Rattle.body_decode.specs.Body.{byTurns, frameBytes, oneChannel, twoChannels, decodedBody}
-use Rattle.body_decode.proofs.InterleaveLaws.{by-turns-length}
+use Rattle.laws.specs.Turns.{byTurns}
+use Rattle.body_decode.specs.Body.{frameBytes, oneChannel, twoChannels, decodedBody}
+use Rattle.laws.proofs.TurnLaws.{by-turns-length}
 
 -- ---- at most so many
 

@@ -1,4 +1,3 @@
 -- Laws that the proofs cite.
 pub mod NibbleLaws
-pub mod InterleaveLaws
 pub mod BodyLaws

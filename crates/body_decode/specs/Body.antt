@@ -1,10 +1,11 @@
 -- A whole BODY as interleaved bytes, at most so many frames of it.
 use Prim.Native.Nat.{ℕ}
 use mathlib.Core.Bool.{cond}
-use mathlib.Core.List.{List, [], _∷_, map}
+use mathlib.Core.List.{List, map}
 use lib.Dec.{ltb}
 use lib.IntN.{ℤ}
 use lib.ListN.{take}
+use Rattle.laws.specs.Turns.{byTurns}
 use Rattle.refusal.specs.Numbers.{oddHalves}
 use Rattle.refusal.specs.Outcome.{Outcome, gives, refuses, andThen}
 use Rattle.field.specs.Signed.{byteOf}
@@ -12,12 +13,6 @@ use Rattle.header.specs.Compression.{knownCompression, byCompression}
 use Rattle.header.specs.declared.compression.Compression.{Compression}
 use Rattle.samples.specs.Stream.{stream}
 use Rattle.samples.specs.Halves.{leftHalf, rightHalf, uneven}
-
--- a left and a right byte by turns
-unfoldable pub byTurns : List ℕ → List ℕ → List ℕ
-byTurns [] rs = []
-byTurns (l ∷ ls) [] = []
-byTurns (l ∷ ls) (r ∷ rs) = l ∷ r ∷ byTurns ls rs
 
 -- a channel's samples as bytes, at most `frames` of them
 abbrev pub frameBytes : ℕ → List ℤ → List ℕ

@@ -14,7 +14,8 @@ ghost use Rattle.refusal.specs.Outcome.{answer, bufferAfter};
 ghost use Rattle.header.specs.declared.compression.Compression.the-variants.{None, Fibonacci};
 ghost use Rattle.fibonacci.specs.Step.{fibStep};
 ghost use Rattle.fibonacci.specs.Decode.{nibbles, fibSamples};
-ghost use Rattle.body_decode.specs.Body.{byTurns, frameBytes, oneChannel, twoChannels, decodedBody};
+ghost use Rattle.laws.specs.Turns.{byTurns};
+ghost use Rattle.body_decode.specs.Body.{frameBytes, oneChannel, twoChannels, decodedBody};
 
 fn least(a: usize, b: usize) -> usize
     ensures { λ r. ⌜ r ≡ min a b ⌝ }

@@ -9,15 +9,14 @@ use Prim.Native.Nat.{ℕ, zero, suc, _/_, _^_, _≤_, _<_}
 use native.Mathlib.Omega.{arith}
 use borrow.Author.Tests.{eqb-true}
 use lib.Dec.{eqb}
-use lib.IntN.{ℤ, pos}
+use lib.IntN.{ℤ}
 use lib.ListN.{length, getD, take, drop, length-map, length-append}
 use lib.Seq.{take-at, drop-at, take-all}
 use mir.Syntax.{w8}
 use mir.Val.{SFits}
-use Rattle.laws.proofs.Signed.{zarith}
 use Rattle.refusal.specs.Outcome.{gives}
 use Rattle.field.specs.Signed.{Samples, sampleOf, byteOf}
-use Rattle.field.proofs.SignedLaws.{sample-fits, sample-byte}
+use Rattle.field.proofs.SignedLaws.{sample-fits, sample-byte, none-fits, samples-take}
 use Rattle.header.specs.Compression.{knownCompression}
 use Rattle.header.specs.Octaves.{hi, totalSamples}
 use Rattle.header.specs.declared.compression.Compression.{Compression}
@@ -32,15 +31,6 @@ use Rattle.body_read.specs.Sides.{Sides, channelSamples, twoSides, bodyS
 use Rattle.body_read.specs.Helpers.{streamSamples}
 use Rattle.body_read.proofs.ChannelLaws.{channel-of, channel-whole}
 use Rattle.body_read.proofs.SideLaws.{one-gives, two-both, sides-one, sides-two, suit-parts, one-parts, two-parts, Source, sides-known}
-
-none-fits : SFits w8 (pos 0)
-none-fits = omega zarith
-
-samples-take : (n : ℕ) (l : List ℤ) → Samples l → Samples (take n l)
-samples-take zero l h i = none-fits
-samples-take (suc n) [] h i = none-fits
-samples-take (suc n) (x ∷ l) h zero = h 0
-samples-take (suc n) (x ∷ l) h (suc i) = samples-take n l (λ j. h (suc j)) i
 
 -- ---- what is read
 

@@ -11,7 +11,7 @@ use lib.ListN.{length}
 use Rattle.laws.proofs.Cases.{impossible}
 use Rattle.laws.specs.Buffer.{written}
 use Rattle.refusal.specs.Numbers.{bufferShort, channelShort, compression, channelValue}
-use Rattle.refusal.specs.Outcome.{Outcome, gives, refuses}
+use Rattle.refusal.specs.Outcome.{Outcome, gives, refuses, lengthOf}
 use Rattle.refusal.specs.declared.Output.the-variants as Output
 use Rattle.field.specs.BigEndian.{bigEndian}
 use Rattle.field.specs.Signed.{sampleOf, byteOf}
@@ -38,14 +38,15 @@ use Rattle.voice_read.specs.ReadVoice.{Reading, readVoice}
 use Rattle.voice_read.specs.Parsed.{Lent, ReadResult, lengthsOf, neededBy, fits, writtenTo, readingLeaves}
 use Rattle.voice_read.specs.declared.chunks.Parsed.the-variants as Parsed
 use Rattle.voice_write.specs.WriteVoice.{writeSheet}
-use Rattle.voice_write.specs.Answers.{lengthOf}
-use Rattle.demands.specs.Demand1.{Among, readingNumbers, writingNumbers, bodyNumbers, sideNumbers, channelNumbers, fillNumbers, FillsOrKeeps, Demand1}
+use Rattle.wave.specs.Wave.{octaveWaveOf}
+use Rattle.demands.specs.Demand1.{Among, readingNumbers, writingNumbers, bodyNumbers, sideNumbers, channelNumbers, fillNumbers, waveNumbers, FillsOrKeeps, Demand1}
 use Rattle.demands.proofs.NumberLaws.{one-of, Within, refused-by}
 use Rattle.demands.proofs.FirstNumbers.{refused-record}
 use Rattle.demands.proofs.DecodeNumbers.{channel-within, body-within}
 use Rattle.demands.proofs.ReadNumbers.{sides-within, reading-within}
 use Rattle.demands.proofs.WriteNumbers.{sheet-number, writing-within}
 use Rattle.demands.proofs.FillNumbers.{fill-within}
+use Rattle.demands.proofs.WaveNumbers.{wave-within}
 
 -- ---- one buffer
 
@@ -140,6 +141,8 @@ demand1 = record {
   writing = λ sheet sides n. refused-by writingNumbers (writeSheet sheet sides) n (writing-within sheet sides);
   file-length = λ sheet sides. length-within writingNumbers (writeSheet sheet sides) (writing-within sheet sides);
   encode-voice = λ sheet sides. fills-or-keeps writingNumbers (writeSheet sheet sides) (writing-within sheet sides);
+  octave-wave-length = λ sheet sides k. length-within waveNumbers (octaveWaveOf sheet sides k) (wave-within sheet sides k);
+  octave-wave = λ sheet sides k. fills-or-keeps waveNumbers (octaveWaveOf sheet sides k) (wave-within sheet sides k);
   decode-body = λ byte channels frames body. fills-or-keeps bodyNumbers (decodedBody byte channels frames body) (body-within byte channels frames body);
   fibonacci-decode-channel = λ body. fills-or-keeps channelNumbers (fibChannel body) (channel-within channelNumbers (one-of channelNumbers channelShort tt) body);
   fibonacci-encode-channel = λ samples. fills-or-keeps [] (gives (fibBytes samples)) tt;

@@ -1,7 +1,7 @@
 -- The numbers by which a fill is refused: only where a rule with that number holds, and on a read voice only by some.
 -- Assumes nothing.
 use Prim.Native.Nat.{ℕ, zero, suc, _^_, min}
-use mathlib.Core.Bool.{Bool, true, false, cond, not}
+use mathlib.Core.Bool.{false, not}
 use mathlib.Core.List.{List, [], _∷_}
 use mathlib.Core.Logic.{_⊎_, inl, inr}
 use mathlib.Core.Path.{_≡_, refl, ap}
@@ -24,7 +24,7 @@ use Rattle.sheet.specs.declared.judge.Judged.{Judged}
 use Rattle.sheet.specs.declared.judge.Judged.the-variants as judged
 use Rattle.body_read.specs.Sides.{Sides}
 use Rattle.note_frame.specs.declared.chain.Frame.{Frame}
-use Rattle.refusal.specs.Rules.{Rule, Holds, NoneHolds, numbersOf}
+use Rattle.refusal.specs.Rules.{Holds, NoneHolds, numbersOf}
 use Rattle.note_rules.specs.Rules.{keyUpAhead, fillRules}
 use Rattle.note_frame.specs.declared.playing.Playing.{Playing}
 use Rattle.note_rules.proofs.RuleLaws.{rules-are, not-ahead, never-ahead}
@@ -35,7 +35,7 @@ use Rattle.demands.specs.Demand1.{Among, fillNumbers, sheetNumbers}
 use Rattle.demands.specs.Demand2.{Acceptable}
 use Rattle.demands.specs.Demand3.{readVoiceNumbers, RefusedAmong}
 use Rattle.demands.specs.Reckoning.{Call, fill, keyUp, Started, State, playing, atFirst, setBy, fillAt, answerTo, grown, reckonFrom}
-use Rattle.demands.proofs.NumberLaws.{isOneOf, one-of, Within}
+use Rattle.demands.proofs.NumberLaws.{Within, others, holding-among}
 use Rattle.demands.proofs.WriteNumbers.{if-sound-within, sheet-number}
 use Rattle.demands.proofs.Accepted.{read-sound}
 use Rattle.demands.proofs.Played.{Behind, behind-key-up, behind-fill}
@@ -61,23 +61,6 @@ by-none sheet s p frames places block = go (judged sheet) refl
     go (judged.Refused k) is e = impossible cc
 
 -- ---- the numbers
-
--- the rules whose numbers aren't among these
-abbrev others : List ℕ → List Rule → List Rule
-others numbers [] = []
-others numbers (r ∷ rs) = cond (isOneOf numbers (r .number)) (others numbers rs) (r ∷ others numbers rs)
-
--- where none of those holds, a rule that holds has one of the numbers
-holding-among : (numbers : List ℕ) (rs : List Rule) → NoneHolds (others numbers rs) → (n : ℕ) → Holds n rs → Among n numbers
-holding-among numbers [] none n h = absurd h
-holding-among numbers (r ∷ rs) none n h = go (isOneOf numbers (r .number)) refl none h (λ rest. holding-among numbers rs rest n)
-  where
-    go : (t : Bool) → isOneOf numbers (r .number) ≡ t → NoneHolds (cond t (others numbers rs) (r ∷ others numbers rs)) → Holds n (r ∷ rs)
-        → (NoneHolds (others numbers rs) → Holds n rs → Among n numbers) → Among n numbers
-    go true t none (inl w) later = rw (← w .0) (one-of numbers (r .number) (rw t tt))
-    go true t none (inr h) later = later none h
-    go false t none (inl w) later = impossible cc
-    go false t none (inr h) later = later (none .1) h
 
 voice-within : (numbers : List ℕ) (v : Voice) (s : Sides) (p : Playing) (frames places : ℕ) → NoneHolds (others numbers (rulesOf v s p frames places)) → Within numbers (fillVoice v s p frames places)
 voice-within numbers v s p frames places none = go (fillVoice v s p frames places) refl
@@ -105,7 +88,7 @@ order v left right p frames places = rw (rules-are v left right p frames places)
 -- ---- a read voice
 
 -- 10 doesn't hold
-known-byte : (byte : ℕ) (c : Compression) → knownCompression byte ≡ Known c → ltb 1 byte ≡ false
+pub known-byte : (byte : ℕ) (c : Compression) → knownCompression byte ≡ Known c → ltb 1 byte ≡ false
 unfolding knownCompression
 known-byte zero c e = refl
 known-byte (suc zero) c e = refl

@@ -8,7 +8,9 @@ pub mod Accepted
 pub mod Played
 pub mod OneNote
 pub mod FillNumbers
+pub mod WaveNumbers
 pub mod Demand1
 pub mod Demand2
 pub mod Demand3
+pub mod ReadWave
 pub mod TableP

@@ -1,6 +1,8 @@
 -- The numbers by which a chain of steps may be refused.
 --     one-of, all-of                   a number of a list, by a test that is computed
 --     Within, by-test .. unless-zero   what each step of a chain may be refused by
+--     others, holding-among            a rule that holds has one of the numbers, where no other rule holds
+--     rules-within                     what rules turn back is refused by one of their numbers
 --     along                            what is said of a walk from each place on
 -- Assumes nothing.
 use Prim.Native.Nat.{ℕ, zero, suc, _+_, _≤_, _<_}
@@ -12,7 +14,10 @@ use native.Mathlib.Omega.{arith}
 use borrow.Author.Tests.{eqb-true}
 use lib.Dec.{T, eqb}
 use lib.Ieee.Fits.{and-l, and-r}
+use Rattle.laws.proofs.Cases.{impossible}
+use Rattle.refusal.proofs.RuleLaws.{by-number, first-holds}
 use Rattle.refusal.specs.Outcome.{Outcome, gives, refuses, andThen}
+use Rattle.refusal.specs.Rules.{Rule, Holds, NoneHolds, firstHolding, unlessRefused}
 use Rattle.demands.specs.Demand1.{Among}
 
 -- ---- a number of a list
@@ -64,6 +69,34 @@ module _ (numbers : List ℕ) where
   pub unless-zero : {A : Type 0} (P : A → Type 0) (n : ℕ) {sound refused : A} → Among n (0 ∷ numbers) → P sound → (Among n numbers → P refused) → P (cond (eqb n 0) sound refused)
   unless-zero P n (inl e) p q = rw e p
   unless-zero P n (inr a) p q = by-test P (eqb n 0) p (q a)
+
+-- ---- rules
+
+-- the rules whose numbers aren't among these
+abbrev pub others : List ℕ → List Rule → List Rule
+others numbers [] = []
+others numbers (r ∷ rs) = cond (isOneOf numbers (r .number)) (others numbers rs) (r ∷ others numbers rs)
+
+-- where none of those holds, a rule that holds has one of the numbers
+pub holding-among : (numbers : List ℕ) (rs : List Rule) → NoneHolds (others numbers rs) → (n : ℕ) → Holds n rs → Among n numbers
+holding-among numbers [] none n h = absurd h
+holding-among numbers (r ∷ rs) none n h = go (isOneOf numbers (r .number)) refl none h (λ rest. holding-among numbers rs rest n)
+  where
+    go : (t : Bool) → isOneOf numbers (r .number) ≡ t → NoneHolds (cond t (others numbers rs) (r ∷ others numbers rs)) → Holds n (r ∷ rs)
+        → (NoneHolds (others numbers rs) → Holds n rs → Among n numbers) → Among n numbers
+    go true t none (inl w) later = rw (← w .0) (one-of numbers (r .number) (rw t tt))
+    go true t none (inr h) later = later none h
+    go false t none (inl w) later = impossible cc
+    go false t none (inr h) later = later (none .1) h
+
+pub rules-within : {A : Type 0} (numbers : List ℕ) (rs : List Rule) (a : A) → NoneHolds (others numbers rs) → Within numbers (unlessRefused (firstHolding rs) a)
+rules-within {A} numbers rs a none = go (unlessRefused (firstHolding rs) a) refl
+  where
+    go : (o : Outcome A) → unlessRefused (firstHolding rs) a ≡ o → Within numbers o
+    go (gives b) e = tt
+    go (refuses n) e =
+        let by = by-number (firstHolding rs) n a e in
+        holding-among numbers rs none n (first-holds rs n (by .0) (by .1))
 
 -- ---- a walk
 

@@ -13,8 +13,8 @@ use lib.ListN.{length}
 use Rattle.refusal.specs.Numbers.{fileShort, notForm, not8svx, chunkPastForm, chunkTwice, chunkLength, channelValue, noHeader, noBody}
 use Rattle.refusal.specs.Numbers.{compression, oddHalves, channelShort, octaveTotal, samplesShort}
 use Rattle.refusal.specs.Numbers.{recordCut, recordWrong, textIllFormed, sampleLengths, formLength, bufferShort}
-use Rattle.refusal.specs.Numbers.{segment, sequenceOneShot, fadeSegment, sequenceLength, oddPlaces, noOctave, step, rate, keyUp}
-use Rattle.refusal.specs.Outcome.{Outcome, gives, refuses, answer, bufferAfter}
+use Rattle.refusal.specs.Numbers.{segment, sequenceOneShot, fadeSegment, sequenceLength, oddPlaces, noOctave, step, rate, keyUp, voiceRate}
+use Rattle.refusal.specs.Outcome.{Outcome, gives, refuses, answer, lengthOf, bufferAfter}
 use Rattle.refusal.specs.declared.Output.the-variants as Output
 use Rattle.field.specs.Signed.{sampleOf, byteOf}
 use Rattle.header.specs.Compression.{knownCompression}
@@ -54,7 +54,7 @@ use Rattle.voice_read.specs.ReadVoice.{readVoice}
 use Rattle.voice_read.specs.Parsed.{Lent, neededBy, afterReading}
 use Rattle.voice_read.specs.declared.chunks.Parsed.the-variants as Parsed
 use Rattle.voice_write.specs.WriteVoice.{writeSheet}
-use Rattle.voice_write.specs.Answers.{lengthOf}
+use Rattle.wave.specs.Wave.{octaveWaveOf}
 
 -- the number is one of these
 abbrev pub Among : ℕ → List ℕ → Type 0
@@ -99,6 +99,10 @@ fillNumbers =
     compression ∷ octaveTotal ∷ recordCut ∷ recordWrong ∷ textIllFormed ∷ sampleLengths
     ∷ segment ∷ sequenceOneShot ∷ fadeSegment ∷ sequenceLength ∷ oddPlaces ∷ noOctave ∷ step ∷ rate ∷ keyUp ∷ []
 
+-- an octave as WAVE: 10, 13, 15 to 18, 31, 41, 19
+abbrev pub waveNumbers : List ℕ
+waveNumbers = compression ∷ octaveTotal ∷ recordCut ∷ recordWrong ∷ textIllFormed ∷ sampleLengths ∷ noOctave ∷ voiceRate ∷ formLength ∷ []
+
 -- one record of a sheet: 15, 16
 abbrev pub recordNumbers : List ℕ
 recordNumbers = recordCut ∷ recordWrong ∷ []
@@ -124,6 +128,10 @@ pub record Demand1 : Type 0 where
   pub file-length : (sheet : List ℕ) (sides : Sides) (n : ℕ) → lengthOf (writeSheet sheet sides) ≡ Output.Refused n → Among n writingNumbers
   -- encode_voice is refused by 10, 13, 15 to 20, and then the file's buffer is as it was
   pub encode-voice : (sheet : List ℕ) (sides : Sides) → FillsOrKeeps writingNumbers (writeSheet sheet sides)
+  -- octave_wave_length is refused by 10, 13, 15 to 18, 31, 41 or 19
+  pub octave-wave-length : (sheet : List ℕ) (sides : Sides) (k n : ℕ) → lengthOf (octaveWaveOf sheet sides k) ≡ Output.Refused n → Among n waveNumbers
+  -- octave_wave is refused by these or 20, and then the file's buffer is as it was
+  pub octave-wave : (sheet : List ℕ) (sides : Sides) (k : ℕ) → FillsOrKeeps waveNumbers (octaveWaveOf sheet sides k)
   -- decode_body is refused by 10, 11, 12 or 20, and then its buffer is as it was
   pub decode-body : (byte channels frames : ℕ) (body : List ℕ) → FillsOrKeeps bodyNumbers (decodedBody byte channels frames body)
   -- fibonacci_decode_channel is refused by 12 or 20, and then its buffer is as it was

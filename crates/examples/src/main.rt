@@ -3,10 +3,12 @@ mod codec;
 mod headers;
 mod sheets;
 mod texts;
+mod waves;
 
 fn main() {
     codec::run();
     headers::run();
     sheets::run();
     texts::run();
+    waves::run();
 }

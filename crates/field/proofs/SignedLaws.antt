@@ -2,18 +2,21 @@
 -- Assumes nothing.
 use mathlib.Core.Path.{_≡_, refl}
 use mathlib.Core.Bool.{Bool, true, false, cond}
-use Prim.Native.Nat.{ℕ, suc, _+_, _-_, _^_, _≤_, _<_}
+use mathlib.Core.List.{List, [], _∷_}
+use Prim.Native.Nat.{ℕ, zero, suc, _+_, _-_, _^_, _≤_, _<_}
 use native.Mathlib.Omega.{arith}
 use borrow.Author.Tests.{ltb-true, ltb-false}
 use lib.Dec.{T, ltb}
 use lib.IntN.{ℤ, pos, negsuc, natAbs}
+use lib.ListN.{take, drop}
+use lib.Seq.{getD-drop}
 use lib.Signed.{mag, ltZ, nonNeg}
 use mir.Syntax.{Width, w8, w16, w32, w64, w128}
 use mir.Val.{Fits, SFits, bits, hbits, sel, toZ, ofZ}
 use mir.Facts.{toZ-ofZ, ofZ-toZ}
 use mir.ValLaws.{half-full}
 use Rattle.laws.proofs.Signed.{zarith, known, abs-parts, not-neg, nonNeg-of}
-use Rattle.field.specs.Signed.{twosComplement, twosComplementBits, sampleOf, byteOf}
+use Rattle.field.specs.Signed.{twosComplement, twosComplementBits, sampleOf, byteOf, Samples}
 
 sel-cond : (t : Bool) (x y : ℤ) → sel t x y ≡ cond t x y
 sel-cond true x y = refl
@@ -56,6 +59,19 @@ sample-fits b = go (ltb b 128) refl
     go : (t : Bool) → ltb b 128 ≡ t → SFits w8 (cond t (pos b) (negsuc (128 + 128 - suc b)))
     go true e = omega (zarith, ltb-true b 128 e)
     go false e = omega (zarith, ltb-false b 128 e)
+
+-- parts of samples are samples
+pub none-fits : SFits w8 (pos 0)
+none-fits = omega zarith
+
+pub samples-take : (n : ℕ) (l : List ℤ) → Samples l → Samples (take n l)
+samples-take zero l h i = none-fits
+samples-take (suc n) [] h i = none-fits
+samples-take (suc n) (x ∷ l) h zero = h 0
+samples-take (suc n) (x ∷ l) h (suc i) = samples-take n l (λ j. h (suc j)) i
+
+pub samples-drop : (n : ℕ) (l : List ℤ) → Samples l → Samples (drop n l)
+samples-drop n l h i = rw getD-drop (h (n + i))
 
 pub byte-sample : (b : ℕ) → b < 256 → byteOf (sampleOf b) ≡ b
 byte-sample b h = bits-signed w8 b (record { fits = h })

@@ -1,11 +1,15 @@
-// Fields of the format: big-endian numbers, signed samples, and stores at a place of a lent buffer.
+// Fields of files: big-endian numbers as FORM has them and little-endian ones as RIFF has them, signed samples, and stores at a place of
+// a lent buffer.
 //
 // The functions that read at a place ask that the field lies within the slice: the crates above have judged lengths by
 // then. Those that store pass over what does not fit, so a writer that is run over an empty slice measures.
+mod little;
 mod number;
 mod signed;
 mod store;
 
+pub use little::put16_le;
+pub use little::put32_le;
 pub use number::bytes32;
 pub use number::put16;
 pub use number::put32;

@@ -2,3 +2,4 @@
 pub mod Walk
 pub mod Put
 pub mod Buffer
+pub mod Turns

@@ -6,19 +6,22 @@
 --     front-whole, front-short, front-at                                 a side by cases
 --     side-told                                                          the part of a buffer that a side is
 --     start-within, split-joined                                         the two parts of an octave
+--     part-same, part-none, part-samples                                 of slices of one length, of none, and of samples
 -- Assumes nothing.
 use Prim.Native.Nat.{ℕ, _+_, _-_, _*_, _/_, _^_, _≤_, _<_}
 use mathlib.Core.Bool.{Bool, true, false, cond}
-use mathlib.Core.List.{List, _++_}
+use mathlib.Core.List.{List, [], _∷_, _++_}
 use mathlib.Core.Path.{_≡_, refl, ap, ap₂, _∙_}
 use native.Mathlib.Nat.{add-comm, add-zero, mul-add, le-div-iff-mul-le, div-lt-iff-lt-mul}
 use native.Mathlib.Omega.{arith}
 use borrow.Author.Tests.{lt-ltb, le-ltb, le-leb, lt-leb, eq-eqb, ne-eqb, leb-true, eqb-true}
 use lib.Dec.{eqb, ltb, leb}
 use lib.IntN.{ℤ}
-use lib.ListN.{length, take, drop, length-drop, take-append-drop}
+use lib.ListN.{length, take, drop, length-take, length-drop, take-append-drop}
 use lib.Pow.{pow-pos}
 use lib.Seq.{take-all}
+use Rattle.field.proofs.SignedLaws.{none-fits, samples-take, samples-drop}
+use Rattle.field.specs.Signed.{Samples}
 use Rattle.header.specs.Octaves.{hi, octaves, inOctave, totalSamples}
 use Rattle.header.specs.declared.«voice_header».VoiceHeader.{VoiceHeader}
 use Rattle.header.specs.declared.«voice_header».SampleCount.{SampleCount}
@@ -183,3 +186,31 @@ split-joined h xs k a e =
     ap (λ (s : SampleCount). partOf (partBefore s) xs ++ partOf (partFrom s (length xs)) xs) e
     ∙ ap (λ (l : List ℤ). take a xs ++ l) (take-all (length xs - a) (drop a xs) (omega (arith, length-drop a xs)))
     ∙ take-append-drop a xs
+
+-- ---- a part by its slice
+
+module _ (p : Part) where
+  pub part-same : (xs ys : List ℤ) → length xs ≡ length ys → length (partOf p xs) ≡ length (partOf p ys)
+  part-same xs ys e = go p
+    where
+      go : (p : Part) → length (partOf p xs) ≡ length (partOf p ys)
+      go (At start n) = omega (arith, length-take n (drop start xs), length-drop start xs, length-take n (drop start ys), length-drop start ys)
+      go Absent = refl
+
+  pub part-none : (xs : List ℤ) → length xs ≡ 0 → partOf p xs ≡ []
+  part-none xs e = empty (partOf p xs) (go p)
+    where
+      empty : (l : List ℤ) → length l ≡ 0 → l ≡ []
+      empty [] z = refl
+      empty (x ∷ l) z = absurd (omega arith)
+
+      go : (p : Part) → length (partOf p xs) ≡ 0
+      go (At start n) = omega (arith, length-take n (drop start xs), length-drop start xs)
+      go Absent = refl
+
+  pub part-samples : (xs : List ℤ) → Samples xs → Samples (partOf p xs)
+  part-samples xs h = go p
+    where
+      go : (p : Part) → Samples (partOf p xs)
+      go (At start n) = samples-take n (drop start xs) (samples-drop start xs h)
+      go Absent = λ i. none-fits

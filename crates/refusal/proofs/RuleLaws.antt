@@ -7,19 +7,21 @@
 --     none-parts                   of two lists joined none holds exactly if none of either does
 --     numbered-by                  by a test of the numbers
 --     by-number, by-zero           what an outcome says of the number
+--     answered-by                  the answer with a buffer: the first of all rules, 20 last
 -- Assumes nothing.
 use Prim.Native.Nat.{ℕ}
 use mathlib.Core.Bool.{Bool, true, false, cond, not, _&&_}
 use mathlib.Core.List.{List, [], _∷_, _++_}
 use mathlib.Core.Logic.{inl, inr}
 use mathlib.Core.Path.{_≡_, refl, sym, _∙_}
-use borrow.Author.Tests.{eqb-true, eqb-false}
-use lib.Dec.{T, eqb}
+use borrow.Author.Tests.{eqb-true, eqb-false, ltb-true, ltb-false, le-leb, lt-leb}
+use lib.Dec.{T, eqb, ltb}
 use lib.Ieee.Fits.{and-l, and-r}
-use lib.ListN.{drop}
+use lib.ListN.{length, drop}
 use Rattle.laws.proofs.Cases.{impossible}
-use Rattle.refusal.specs.Outcome.{Outcome, gives, refuses}
-use Rattle.refusal.specs.Rules.{Rule, firstHolding, Holds, NoneHolds, unlessRefused}
+use Rattle.refusal.specs.Numbers.{bufferShort}
+use Rattle.refusal.specs.Outcome.{Outcome, gives, refuses, answer}
+use Rattle.refusal.specs.Rules.{Rule, rule, firstHolding, Holds, NoneHolds, unlessRefused, withBuffer, answerBy}
 
 -- no rule has the number 0
 abbrev pub Numbered : List Rule → Type 0
@@ -115,3 +117,21 @@ by-zero {A} number a b = go (eqb number 0) refl
     go : (t : Bool) → eqb number 0 ≡ t → _≡_ {A = Outcome A} (cond t (gives a) (refuses number)) (gives b) → number ≡ 0
     go true t e = eqb-true number 0 t
     go false t e = impossible cc
+
+-- an output that no rule turns back, into a buffer of so many places
+module _ {A : Type 0} (rs : List Rule) (numbered : Numbered rs) (xs : List A) (places : ℕ) where
+  into-buffer : (t : Bool) → ltb places (length xs) ≡ t → answer (gives xs) places ≡ answerBy (cond t bufferShort 0) (length xs)
+  into-buffer true e = rw (lt-leb (length xs) places (ltb-true places (length xs) e))
+  into-buffer false e = rw (le-leb (length xs) places (ltb-false places (length xs) e))
+
+  pub answered-by : answer (unlessRefused (firstHolding rs) xs) places ≡ answerBy (firstHolding (withBuffer rs xs places)) (length xs)
+  unfolding firstHolding
+  answered-by = go (eqb (firstHolding rs) 0) refl
+    where
+      go : (t : Bool) → eqb (firstHolding rs) 0 ≡ t → answer (unlessRefused (firstHolding rs) xs) places ≡ answerBy (firstHolding (withBuffer rs xs places)) (length xs)
+      go true e =
+          let none = eqb-true (firstHolding rs) 0 e in
+          rw (first-join rs (rule bufferShort (ltb places (length xs)) ∷ []) numbered none, none) (into-buffer (ltb places (length xs)) refl)
+      go false e =
+          let some = eqb-false (firstHolding rs) 0 e in
+          rw (first-stands rs (rule bufferShort (ltb places (length xs)) ∷ []) some, e)

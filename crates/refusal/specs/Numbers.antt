@@ -75,7 +75,7 @@ textIllFormed = 17
 abbrev pub sampleLengths : ℕ
 sampleLengths = 18
 
--- the FORM would be longer than 4,294,967,295 bytes
+-- the length of the FORM or RIFF would be above 4,294,967,295
 abbrev pub formLength : ℕ
 formLength = 19
 
@@ -118,5 +118,9 @@ rate = 33
 -- the key-up frame is later than the frames filled
 abbrev pub keyUp : ℕ
 keyUp = 34
+
+-- the voice's rate is 0
+abbrev pub voiceRate : ℕ
+voiceRate = 41
 
 -- } refusals.txt

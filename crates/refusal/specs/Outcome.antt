@@ -24,6 +24,11 @@ abbrev pub answer : {A : Type 0} → Outcome (List A) → ℕ → Output
 answer (gives xs) n = cond (leb (length xs) n) (Length (length xs)) (Refused bufferShort)
 answer (refuses number) n = Refused number
 
+-- the length of the output, for a caller that asks before lending a buffer; never refused by 20
+abbrev pub lengthOf : {A : Type 0} → Outcome (List A) → Output
+lengthOf (gives xs) = Length (length xs)
+lengthOf (refuses number) = Refused number
+
 -- the buffer after the call: the output and past it what was there, or, where refused, all of what was there
 abbrev pub bufferAfter : {A : Type 0} → Outcome (List A) → List A → List A
 bufferAfter (gives xs) buffer = cond (leb (length xs) (length buffer)) (written xs buffer) buffer

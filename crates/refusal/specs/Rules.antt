@@ -1,11 +1,15 @@
 -- Rules that turn a call back, as a list in the order in which they are judged: a call is refused by the first that holds.
 use Prim.Native.Nat.{ℕ}
 use mathlib.Core.Bool.{Bool, true, false, cond}
-use mathlib.Core.List.{List, [], _∷_, map}
+use mathlib.Core.List.{List, [], _∷_, _++_, map}
 use mathlib.Core.Logic.{_⊎_}
 use mathlib.Core.Path.{_≡_}
-use lib.Dec.{eqb}
+use lib.Dec.{eqb, ltb}
+use lib.ListN.{length}
+use Rattle.refusal.specs.Numbers.{bufferShort}
 use Rattle.refusal.specs.Outcome.{Outcome, gives, refuses}
+use Rattle.refusal.specs.declared.Output.{Output}
+use Rattle.refusal.specs.declared.Output.the-variants.{Length, Refused}
 
 -- a rule: its number, and whether it holds
 pub record Rule : Type 0 where
@@ -24,6 +28,14 @@ firstHolding (r ∷ rs) = cond (r .holds) (r .number) (firstHolding rs)
 -- a value, unless a number other than 0 turns it back
 abbrev pub unlessRefused : {A : Type 0} → ℕ → A → Outcome A
 unlessRefused number a = cond (eqb number 0) (gives a) (refuses number)
+
+-- rules for an output that is to go into a buffer of so many places: 20, where it doesn't fit, comes last
+abbrev pub withBuffer : {A : Type 0} → List Rule → List A → ℕ → List Rule
+withBuffer rules xs places = rules ++ rule bufferShort (ltb places (length xs)) ∷ []
+
+-- the answer by the number of the rule that turns a call back: that refusal, or, where there is none, so many elements
+abbrev pub answerBy : ℕ → ℕ → Output
+answerBy number n = cond (eqb number 0) (Length n) (Refused number)
 
 -- the numbers of rules, in the order in which they are judged
 abbrev pub numbersOf : List Rule → List ℕ

@@ -56,7 +56,7 @@ pub const TEXT_ILL_FORMED: u8 = 17;
 // The sample lengths don't suit the header and CHAN.
 pub const SAMPLE_LENGTHS: u8 = 18;
 
-// The FORM would be longer than 4,294,967,295 bytes.
+// The length of the FORM or RIFF would be above 4,294,967,295.
 pub const FORM_LENGTH: u8 = 19;
 
 // An output buffer is too short.
@@ -88,6 +88,9 @@ pub const RATE: u8 = 33;
 
 // The key-up frame is later than the frames filled.
 pub const KEY_UP: u8 = 34;
+
+// The voice's rate is 0.
+pub const VOICE_RATE: u8 = 41;
 
 // } refusals.txt
 

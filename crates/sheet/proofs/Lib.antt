@@ -1,5 +1,6 @@
--- Laws that this crate's proofs cite, RecordLaws also for the crates above; Examples has some sheets judged.
+-- Laws that this crate's proofs cite, RecordLaws also for the crates above, SoundLaws for those alone; Examples has some sheets judged.
 pub mod RecordLaws
 pub mod TextLaws
 pub mod JudgeLaws
+pub mod SoundLaws
 pub mod Examples

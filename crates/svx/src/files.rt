@@ -1,17 +1,19 @@
-// Files read and written.
+// Files read and written, and an octave as WAVE.
 use crate::hand::hand_length;
 use crate::hand::hand_lengths;
 use voice::encode_voice;
 use voice::file_length;
+use voice::octave_wave;
+use voice::octave_wave_length;
 use voice::parse_voice;
 use voice::voice_lengths;
 ghost use mathlib.Core.Path.{_≡_};
 ghost use lib.ListN.{length};
-ghost use Rattle.refusal.specs.Outcome.{answer, bufferAfter};
+ghost use Rattle.refusal.specs.Outcome.{answer, lengthOf, bufferAfter};
 ghost use Rattle.voice_read.specs.Parsed.{neededBy, afterReading};
 ghost use Rattle.voice_read.specs.ReadVoice.{readVoice};
-ghost use Rattle.voice_write.specs.Answers.{lengthOf};
 ghost use Rattle.voice_write.specs.WriteVoice.{writeSheet};
+ghost use Rattle.wave.specs.Wave.{octaveWaveOf};
 ghost use Rattle.svx.specs.Answers.{parsedNumber, parsedLengths, outputNumber, outputLength};
 
 #[no_mangle]
@@ -63,5 +65,37 @@ pub extern "C" fn svx_encode_voice(
     ensures buffer { λ _. ⌜ now (file .exit) ≡ bufferAfter (writeSheet (now (sheet .entry)) (record { left = now (left .entry); right = now (right .entry) })) (now (file .entry)) ⌝ }
 {
     let output = encode_voice(sheet, left, right, file);
+    hand_length(output, count)
+}
+
+#[no_mangle]
+pub extern "C" fn svx_octave_wave_length(
+    sheet: &[u8],
+    left: &[i8],
+    right: &[i8],
+    octave: u8,
+    count: &mut u64,
+) -> u32
+    ensures result { λ r. ⌜ r ≡ outputNumber (lengthOf (octaveWaveOf (now (sheet .entry)) (record { left = now (left .entry); right = now (right .entry) }) octave)) ⌝ }
+    ensures count { λ _. ⌜ now (count .exit) ≡ outputLength (lengthOf (octaveWaveOf (now (sheet .entry)) (record { left = now (left .entry); right = now (right .entry) }) octave)) (now (count .entry)) ⌝ }
+{
+    let output = octave_wave_length(sheet, left, right, octave);
+    hand_length(output, count)
+}
+
+#[no_mangle]
+pub extern "C" fn svx_octave_wave(
+    sheet: &[u8],
+    left: &[i8],
+    right: &[i8],
+    octave: u8,
+    file: &mut [u8],
+    count: &mut u64,
+) -> u32
+    ensures result { λ r. ⌜ r ≡ outputNumber (answer (octaveWaveOf (now (sheet .entry)) (record { left = now (left .entry); right = now (right .entry) }) octave) (length (now (file .entry)))) ⌝ }
+    ensures count { λ _. ⌜ now (count .exit) ≡ outputLength (answer (octaveWaveOf (now (sheet .entry)) (record { left = now (left .entry); right = now (right .entry) }) octave) (length (now (file .entry)))) (now (count .entry)) ⌝ }
+    ensures buffer { λ _. ⌜ now (file .exit) ≡ bufferAfter (octaveWaveOf (now (sheet .entry)) (record { left = now (left .entry); right = now (right .entry) }) octave) (now (file .entry)) ⌝ }
+{
+    let output = octave_wave(sheet, left, right, octave, file);
     hand_length(output, count)
 }

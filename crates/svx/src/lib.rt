@@ -13,6 +13,8 @@ pub use codec::svx_fibonacci_decode_channel;
 pub use codec::svx_fibonacci_encode_channel;
 pub use files::svx_encode_voice;
 pub use files::svx_file_length;
+pub use files::svx_octave_wave;
+pub use files::svx_octave_wave_length;
 pub use files::svx_parse_voice;
 pub use files::svx_voice_lengths;
 pub use leaves::SvxFrequency;

@@ -36,6 +36,10 @@ pub use octaves::side_samples;
 pub use samples::Loudest;
 pub use samples::peak;
 
+// An octave as a RIFF WAVE file.
+pub use wave::octave_wave;
+pub use wave::octave_wave_length;
+
 // Codecs: channels, and a whole BODY.
 pub use body_decode::decode_body;
 pub use body_read::SideLengths;

@@ -3,69 +3,27 @@
 use Prim.Native.Nat.{ℕ, _+_, _^_, _≤_, _<_}
 use lib.ListN.{length}
 use mathlib.Core.List.{List}
-use mathlib.Core.Path.{_≡_, refl, sym, ap, _∙_}
+use mathlib.Core.Path.{_≡_, sym, ap, _∙_}
 use native.Mathlib.Omega.{arith}
 use Rattle.field.specs.BigEndian.{Bytes}
 use Rattle.sheet_grammar.proofs.Theorem.{flat-read}
 use Rattle.header.specs.Compression.{knownCompression}
 use Rattle.header.specs.declared.compression.Compression.{Compression}
 use Rattle.header.specs.declared.compression.KnownCompression.the-variants.{Known}
-use Rattle.refusal.specs.Outcome.{Outcome, gives, refuses}
-use Rattle.refusal.specs.declared.Output.the-variants as output
+use Rattle.refusal.specs.Outcome.{gives}
+use Rattle.refusal.specs.Room.{Room}
+use Rattle.refusal.proofs.OutcomeLaws.{room-gives}
+use Rattle.sheet.proofs.SoundLaws.{if-sound, gives-sound}
 use Rattle.sheet.specs.Judge.{judged}
 use Rattle.sheet.specs.Read.{readSheet}
-use Rattle.sheet.specs.declared.judge.Judged.{Judged}
-use Rattle.sheet.specs.declared.judge.Judged.the-variants.{Sound, Refused}
+use Rattle.sheet.specs.declared.judge.Judged.the-variants.{Sound}
 use Rattle.body_read.specs.Sides.{Sides}
-use Rattle.voice_write.specs.Answers.{lengthOf}
-use Rattle.voice_write.specs.Helpers.{Room}
 use Rattle.voice_write.specs.WriteVoice.{contents, fileOf, writeVoice, writeSheet}
 use Rattle.voice_write.proofs.WriteLaws.{accepted, accepted-as, file-length, left-bound, flat-within, right-within}
 
--- ---- an outcome with its length
-
--- it gives a file of n bytes
-pub record Gives (o : Outcome (List ℕ)) (n : ℕ) : Type 0 where
-  pub file : List ℕ
-  pub is : o ≡ gives file
-  pub long : n ≡ length file
-
-pub length-gives : (o : Outcome (List ℕ)) (n : ℕ) → lengthOf o ≡ output.Length n → Gives o n
-length-gives (gives file) n e = record { file = file; is = refl; long = cc }
-length-gives (refuses number) n e = let z : _≡_ {A = ℕ} 0 1 = cc in absurd (omega arith)
-
-pub length-refused : (o : Outcome (List ℕ)) (number : ℕ) → lengthOf o ≡ output.Refused number → o ≡ refuses number
-length-refused (gives file) number e = let z : _≡_ {A = ℕ} 0 1 = cc in absurd (omega arith)
-length-refused (refuses k) number e = cc
-
-pub room-for : (o : Outcome (List ℕ)) (n places : ℕ) → Gives o n → n ≤ places → Room o n places
-room-for o n places g h = rw (g .is) (g .long, h)
-
-pub room-gives : (o : Outcome (List ℕ)) (n places : ℕ) → Room o n places → Gives o n × (n ≤ places)
-room-gives (gives file) n places r = (record { file = file; is = refl; long = r .0 }, r .1)
-room-gives (refuses number) n places r = absurd r
-
--- ---- a sheet
-
-module _ (sheet : List ℕ) (s : Sides) where
-  pub sheet-sound : judged sheet ≡ Sound → writeSheet sheet s ≡ writeVoice (readSheet sheet) s
-  sheet-sound e = rw e
-
-  pub sheet-refused : (number : ℕ) → judged sheet ≡ Refused number → writeSheet sheet s ≡ refuses number
-  sheet-refused number e = rw e
-
-  pub gives-sound : (file : List ℕ) → writeSheet sheet s ≡ gives file → judged sheet ≡ Sound
-  gives-sound file w = go (judged sheet) refl
-    where
-      go : (j : Judged) → judged sheet ≡ j → judged sheet ≡ Sound
-      go Sound q = q
-      go (Refused number) q =
-          let e = sheet-refused number q in
-          let z : _≡_ {A = ℕ} 0 1 = cc in
-          absurd (omega arith)
-
-  pub room-sound : (n places : ℕ) → Room (writeSheet sheet s) n places → judged sheet ≡ Sound
-  room-sound n places r = let g = room-gives (writeSheet sheet s) n places r .0 in gives-sound (g .file) (g .is)
+-- where there is room for a file, the sheet is sound
+pub room-sound : (sheet : List ℕ) (s : Sides) (n places : ℕ) → Room (writeSheet sheet s) n places → judged sheet ≡ Sound
+room-sound sheet s n places r = let g = room-gives (writeSheet sheet s) n places r .0 in gives-sound sheet (writeVoice (readSheet sheet) s) (g .output) (g .is)
 
 -- what a writer of n bytes into so many places counts on
 pub record Writes (sheet : List ℕ) (c : Compression) (s : Sides) (n places : ℕ) : Type 0 where
@@ -83,9 +41,9 @@ pub writes : (sheet : List ℕ) → Bytes sheet → (c : Compression) (s : Sides
 writes sheet bytes c s n places k r =
     let v = readSheet sheet in
     let g = room-gives (writeSheet sheet s) n places r in
-    let file = g .0 .file in
-    let sound = gives-sound sheet s file (g .0 .is) in
-    let a = accepted v s file (sym (sheet-sound sheet s sound) ∙ g .0 .is) in
+    let file = g .0 .output in
+    let sound = gives-sound sheet (writeVoice v s) file (g .0 .is) in
+    let a = accepted v s file (sym (if-sound sheet (writeVoice v s) sound) ∙ g .0 .is) in
     let same = accepted-as v s file c k a in
     let fits : length (contents v c s) < 2 ^ 32 = rw same at (a .fits) in
     let is : file ≡ fileOf (contents v c s) = rw same at (a .is) in

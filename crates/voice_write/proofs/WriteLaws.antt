@@ -153,10 +153,6 @@ accepted-as v s file c k a = let e : Known (a .compression) ≡ Known c = sym (a
 
 -- ---- stored part by part
 
--- where a number of 32 bits that was stored ends
-pub number-end : {d d′ : List ℕ} {at r : ℕ} (n : ℕ) → Put d at (bigEndianBytes 4 n) d′ r → r ≡ at + 4
-number-end n p = omega (arith, p .end, bytes-length 4 n)
-
 pub file-put : {d d₁ d₂ d₃ d₄ d₅ : List ℕ} {at p q r t end : ℕ} (v : Voice) (c : Compression) (s : Sides) (n : ℕ) → n ≡ length (contents v c s)
     → Put d at (bigEndianBytes 4 form) d₁ p → Put d₁ p (bigEndianBytes 4 n) d₂ q → Put d₂ q (bigEndianBytes 4 formType) d₃ r
     → Put d₃ r (voiceChunks v) d₄ t → Put d₄ t (chunkBytes body (samples v c s)) d₅ end → Put d at (fileOf (contents v c s)) d₅ end

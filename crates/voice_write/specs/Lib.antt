@@ -1,4 +1,2 @@
 -- The meaning of writing a file.
 pub mod WriteVoice
-pub mod Answers
-pub mod Helpers

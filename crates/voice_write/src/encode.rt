@@ -13,8 +13,8 @@ ghost use lib.ListN.{length};
 ghost use Rattle.header.specs.Compression.{knownCompression};
 ghost use Rattle.header.specs.declared.compression.KnownCompression.the-variants.{Known};
 ghost use Rattle.refusal.specs.Outcome.{answer, bufferAfter};
+ghost use Rattle.refusal.specs.Room.{Room};
 ghost use Rattle.sheet.specs.Read.{readSheet};
-ghost use Rattle.voice_write.specs.Helpers.{Room};
 ghost use Rattle.voice_write.specs.WriteVoice.{writeSheet};
 
 // The whole file, n bytes, for a compression that is known.

@@ -13,6 +13,7 @@ use sheet_write::chunks_length;
 ghost use mathlib.Core.Path.{_≡_};
 ghost use mathlib.Core.Bool.{true};
 ghost use lib.ListN.{length};
+ghost use Rattle.refusal.specs.Outcome.{lengthOf};
 ghost use Rattle.header.specs.Compression.{knownCompression};
 ghost use Rattle.header.specs.declared.compression.KnownCompression.the-variants.{Known};
 ghost use Rattle.sheet.specs.Judge.{judged};
@@ -20,7 +21,6 @@ ghost use Rattle.sheet.specs.Read.{readSheet};
 ghost use Rattle.sheet.specs.Voice.{isStereo};
 ghost use Rattle.sheet.specs.declared.judge.Judged.the-variants.{Sound};
 ghost use Rattle.body_read.specs.Sides.{lengthsSuit};
-ghost use Rattle.voice_write.specs.Answers.{lengthOf};
 ghost use Rattle.voice_write.specs.WriteVoice.{contents, held32, writeVoice, writeSheet};
 
 // From here on a sheet or a side makes a FORM that is too long, so that no length below can pass 64 bits.

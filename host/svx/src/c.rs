@@ -93,6 +93,28 @@ extern "C" {
         file_len: usize,
         length: *mut u64,
     ) -> u32;
+    pub fn svx_octave_wave_length(
+        sheet: *const u8,
+        sheet_len: usize,
+        left: *const i8,
+        left_len: usize,
+        right: *const i8,
+        right_len: usize,
+        octave: u8,
+        length: *mut u64,
+    ) -> u32;
+    pub fn svx_octave_wave(
+        sheet: *const u8,
+        sheet_len: usize,
+        left: *const i8,
+        left_len: usize,
+        right: *const i8,
+        right_len: usize,
+        octave: u8,
+        file: *mut u8,
+        file_len: usize,
+        length: *mut u64,
+    ) -> u32;
     pub fn svx_note_start(octave: u8, step: u32, rate: u32) -> Note;
     pub fn svx_note_key_up(note: Note) -> Note;
     pub fn svx_note_fill(

@@ -85,6 +85,46 @@ pub fn encode_voice(sheet: &[u8], left: &[i8], right: &[i8], file: &mut [u8]) ->
     answer(refusal, length)
 }
 
+/// The length that writing an octave as a WAVE file needs.
+pub fn octave_wave_length(sheet: &[u8], left: &[i8], right: &[i8], octave: u8) -> Result<usize, Refusal> {
+    let mut length = 0;
+    // SAFETY: as the module says.
+    let refusal = unsafe {
+        svx_octave_wave_length(
+            sheet.as_ptr(),
+            sheet.len(),
+            left.as_ptr(),
+            left.len(),
+            right.as_ptr(),
+            right.len(),
+            octave,
+            &mut length,
+        )
+    };
+    answer(refusal, length)
+}
+
+/// Writes an octave of a voice as a WAVE file and gives its length.
+pub fn octave_wave(sheet: &[u8], left: &[i8], right: &[i8], octave: u8, file: &mut [u8]) -> Result<usize, Refusal> {
+    let mut length = 0;
+    // SAFETY: as the module says.
+    let refusal = unsafe {
+        svx_octave_wave(
+            sheet.as_ptr(),
+            sheet.len(),
+            left.as_ptr(),
+            left.len(),
+            right.as_ptr(),
+            right.len(),
+            octave,
+            file.as_mut_ptr(),
+            file.len(),
+            &mut length,
+        )
+    };
+    answer(refusal, length)
+}
+
 /// A fresh note.
 pub fn note_start(octave: u8, step: u32, rate: u32) -> Note {
     // SAFETY: as the module says.

@@ -5,6 +5,7 @@
 //!
 //! - [`parse_voice`] and [`encode_voice`] turn a file into a [`Voice`] and back.
 //! - A [`Sheet`] is a voice as it is played. A [`Note`] plays it, block by block.
+//! - [`Sheet::octave_wave`] writes an octave of a voice as a RIFF WAVE file.
 //! - What can be turned back answers a [`Refusal`], which has a number and words. Nothing here panics, whatever the
 //!   input.
 //!

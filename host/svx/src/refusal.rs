@@ -5,7 +5,8 @@ use std::fmt;
 /// Why a call was turned back: one of the library's numbered rules.
 ///
 /// A refused call changes nothing: no buffer is written, and a note stays as it was. 1 to 14 turn back a file that is
-/// read, 10, 13 and 15 to 19 a voice that is written, and 10, 13, 18, 21 to 25 and 31 to 34 a fill.
+/// read, 10, 13 and 15 to 19 a voice that is written, these and 31 and 41 an octave that is written as a WAVE file, and
+/// 10, 13, 18, 21 to 25 and 31 to 34 a fill.
 ///
 /// ```
 /// let refusal = svx::parse_voice(b"FORM").unwrap_err();
@@ -37,7 +38,7 @@ fn words_of(number: u32) -> Option<&'static str> {
         16 => "a record's kind, order or value is wrong, or the sheet has no header",
         17 => "a text isn't UTF-8",
         18 => "the sample lengths don't suit the header and CHAN",
-        19 => "the FORM would be longer than 4,294,967,295 bytes",
+        19 => "the length of the FORM or RIFF would be above 4,294,967,295",
         20 => "an output buffer is too short",
         21 => "a SEQN segment isn't on multiples of 4, runs backwards or ends past the highest octave",
         22 => "there is a SEQN beside a one-shot part",
@@ -48,6 +49,7 @@ fn words_of(number: u32) -> Option<&'static str> {
         32 => "the step is 0 or above 16,777,216",
         33 => "the output rate is 0 or above 192,000",
         34 => "the key-up frame is later than the frames filled",
+        41 => "the voice's rate is 0",
         // } refusals.txt
         _ => return None,
     })

@@ -124,6 +124,42 @@ impl Sheet {
         ffi::encode_voice(&self.bytes, &self.left, &self.right, &mut file)?;
         Ok(file)
     }
+
+    /// Writes an octave, of which 0 is the highest, as a RIFF WAVE file: 8-bit PCM at the voice's rate, of two channels
+    /// left and right by turns. With lengths of 0, octave 0 is all the samples, and there is no other.
+    ///
+    /// The data begin at byte 44. Each value is the sample plus 128, since 8-bit values of such a file have no sign.
+    ///
+    /// Refused by 31, where the voice has no such octave, then by 41, where its rate is 0, and by 19, where the RIFF
+    /// would be too long.
+    ///
+    /// ```
+    /// use svx::{ChannelSamples, Sheet, Voice, VoiceHeader};
+    ///
+    /// # fn main() -> Result<(), svx::Refusal> {
+    /// // One sample, -2.
+    /// let sheet = Sheet::of(&Voice {
+    ///     header: VoiceHeader { one_shot_hi_samples: 1, samples_per_sec: 8_000, ..VoiceHeader::default() },
+    ///     channels: vec![ChannelSamples { octaves: vec![vec![-2]] }],
+    ///     ..Voice::default()
+    /// })?;
+    /// let file = sheet.octave_wave(0)?;
+    /// // The data have one byte, -2 + 128. The byte after it makes the file's length even.
+    /// assert_eq!(file[36..], [b'd', b'a', b't', b'a', 1, 0, 0, 0, 126, 0]);
+    /// assert_eq!(sheet.octave_wave(1).unwrap_err().number(), 31);
+    /// # Ok(())
+    /// # }
+    /// ```
+    pub fn octave_wave(&self, octave: u8) -> Result<Vec<u8>, Refusal> {
+        let mut file = vec![0; self.octave_wave_length(octave)?];
+        ffi::octave_wave(&self.bytes, &self.left, &self.right, octave, &mut file)?;
+        Ok(file)
+    }
+
+    /// How many bytes [`octave_wave`](Self::octave_wave) gives, without making them. Refused as it is.
+    pub fn octave_wave_length(&self, octave: u8) -> Result<usize, Refusal> {
+        ffi::octave_wave_length(&self.bytes, &self.left, &self.right, octave)
+    }
 }
 
 /// The records of a [`Sheet`], each as its kind and its body; see [`Sheet::records`].

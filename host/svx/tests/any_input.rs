@@ -1,7 +1,7 @@
 //! Random and damaged inputs: nothing panics, and each call is turned back only by numbers of its own.
 mod common;
 use common::{chan, chunk, envelope, form, full_voice, header, texts, vhdr, Xorshift, EXAMPLE};
-use svx::{ChannelAssignment, ChannelSamples, Fade, Note, Pan, Refusal, Seqn, SeqnSegment, Sheet, Voice};
+use svx::{ChannelAssignment, ChannelSamples, Fade, Note, Pan, Refusal, Seqn, SeqnSegment, Sheet, Voice, VoiceHeader};
 
 const INPUTS: usize = 20_000;
 
@@ -61,6 +61,24 @@ fn judge<T>(answer: Result<T, Refusal>, allowed: &[u32]) -> Option<T> {
         .ok()
 }
 
+/// An octave's WAVE file has the octave's samples, and is there where the octave and a rate are.
+fn use_wave(sheet: &Sheet, voice: &Voice, k: u8) {
+    let place = usize::from(k);
+    let there = place < voice.octave_count() && voice.header.samples_per_sec > 0;
+    let file = judge(sheet.octave_wave(k), &[31, 41]);
+    assert_eq!(file.is_some(), there);
+    if let Some(file) = file {
+        let data = voice.channels[0].octaves[place].len() * voice.channel_count();
+        assert_eq!(file.len(), 44 + data.next_multiple_of(2));
+        for (i, channel) in voice.channels.iter().enumerate() {
+            let side = file[44..44 + data].iter().skip(i).step_by(voice.channels.len());
+            assert!(side
+                .map(|b| b.wrapping_sub(128) as i8)
+                .eq(channel.octaves[place].iter().copied()));
+        }
+    }
+}
+
 /// Asks a sheet everything there is to ask.
 fn use_sheet(r: &mut Xorshift, sheet: &Sheet) {
     let voice = sheet.voice();
@@ -74,6 +92,8 @@ fn use_sheet(r: &mut Xorshift, sheet: &Sheet) {
         channel.loop_split(&voice.header, k);
         svx::peak(&channel.flattened());
     }
+    use_wave(sheet, &voice, k);
+    use_wave(sheet, &voice, r.byte());
     for envelope in voice.attack.iter().chain(&voice.release) {
         envelope.level_at_ms(0, r.next());
     }
@@ -141,12 +161,15 @@ fn any_voice(r: &mut Xorshift) -> Voice {
         })
         .collect();
     Voice {
-        header: header(
-            lengths[0],
-            lengths[1],
-            ct_octave,
-            if r.one_in(8) { r.byte() } else { r.byte() % 2 },
-        ),
+        header: VoiceHeader {
+            samples_per_sec: if r.one_in(8) { 0 } else { 8_000 },
+            ..header(
+                lengths[0],
+                lengths[1],
+                ct_octave,
+                if r.one_in(8) { r.byte() } else { r.byte() % 2 },
+            )
+        },
         channel: assigned,
         pan: r.one_in(2).then(|| Pan {
             position: r.odd_u32() as i32,

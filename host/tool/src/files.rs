@@ -2,7 +2,7 @@
 use crate::failure::{plain, Failure};
 use crate::words::shown;
 use std::ffi::OsStr;
-use std::fs::{self, File};
+use std::fs::{self, File, Metadata};
 use std::io::{self, BufWriter, Read, Write};
 use std::os::unix::fs::MetadataExt;
 use std::path::PathBuf;
@@ -57,6 +57,14 @@ impl Input {
     pub fn refused(&self, refusal: Refusal) -> Failure {
         Failure::refused(&self.name, refusal)
     }
+
+    /// Turns back an output that is this file, by whatever name.
+    pub fn spare(&self, name: &str, about: &Metadata) -> Result<(), Failure> {
+        if (about.dev(), about.ino()) == self.place {
+            return Err(Failure::wrong(name, "is the file that is read; it isn't written over"));
+        }
+        Ok(())
+    }
 }
 
 /// Whether 12 bytes are enough to refuse a file: then the rest can't change the refusal and needn't be read.
@@ -81,8 +89,8 @@ impl Output {
             return Ok(Output::to(io::stdout(), "standard output", true));
         }
         let name = shown(path);
-        if fs::metadata(path).is_ok_and(|about| (about.dev(), about.ino()) == input.place) {
-            return Err(Failure::wrong(&name, "is the file that is read; it isn't written over"));
+        if let Ok(about) = fs::metadata(path) {
+            input.spare(&name, &about)?;
         }
         let file = File::create(path).map_err(|e| Failure::wrong(&name, plain(&e)))?;
         let mut output = Output::to(file, &name, false);

@@ -1,4 +1,5 @@
-//! A tool for Amiga voices (FORM 8SVX): what is in them, their notes as sound files, their waveforms as pictures.
+//! A tool for Amiga voices (FORM 8SVX): what is in them, their notes and octaves as sound files, their waveforms as
+//! pictures.
 mod args;
 mod check;
 mod convert;
@@ -7,11 +8,14 @@ mod envelope;
 mod failure;
 mod files;
 mod info;
+mod made;
 mod notes;
 mod null;
 mod panel;
+mod place;
 mod stem;
 mod svg;
+mod wave;
 mod words;
 
 use args::Command;
@@ -20,11 +24,12 @@ use std::ffi::OsString;
 use std::io::Write;
 use std::process::ExitCode;
 
-const COMMANDS: [&Command; 7] = [
+const COMMANDS: [&Command; 8] = [
     &info::INFO,
     &check::CHECK,
     &stem::STEM,
     &null::NULL,
+    &wave::WAVE,
     &convert::RAW,
     &convert::REWRITE,
     &draw::DRAW,
@@ -84,8 +89,9 @@ fn overview() -> String {
     for command in COMMANDS {
         words += &format!("  {:<9}{}\n", command.name, command.does);
     }
-    words += "\nsvx COMMAND --help tells more of a command. The status is 0; 1 where a file or a\n";
-    words + "note is refused; 2 for wrong usage or a file that can't be read or written.\n"
+    words += "\nsvx COMMAND --help tells more of a command. The status is 0; 1 where a file, a\n";
+    words += "note or an octave is refused; 2 for wrong usage or a file that can't be read or\n";
+    words + "written.\n"
 }
 
 /// The help of a command.

@@ -7,8 +7,8 @@ use native.Mathlib.Omega.{arith}
 use lib.ListN.{length, take, drop, length-set}
 use lib.Seq.{getD-take, length-take-le}
 use Rattle.laws.proofs.Prefix.{prefix-whole}
-use Rattle.body_decode.specs.Body.{byTurns}
-use Rattle.body_decode.proofs.InterleaveLaws.{by-turns-length, frame-stored}
+use Rattle.laws.specs.Turns.{byTurns}
+use Rattle.laws.proofs.TurnLaws.{by-turns-length, turn-stored}
 use Rattle.body_decode.proofs.interleave_bytes.Statement.{statement}
 use Rattle.body_decode.proofs.interleave_bytes.Tie as tie
 
@@ -60,7 +60,7 @@ loop-again c =
     let rs = take (a .n) (a .right .now) in (
       omega arith,
       simp length-set (l .inv .1),
-      frame-stored ls rs (a .out .now) (l .out) (l .i) _ _
+      turn-stored ls rs (a .out .now) (l .out) (l .i) 0 _ _
           (rw (length-take-le (a .n) (a .left .now) (omega arith)) (omega arith))
           (rw (length-take-le (a .n) (a .right .now) (omega arith)) (omega arith))
           (omega arith) (l .inv .2)

@@ -12,10 +12,11 @@ use Rattle.laws.proofs.Prefix.{prefix-whole}
 use Rattle.laws.proofs.Signed.{back}
 use Rattle.field.specs.Signed.{byteOf}
 use Rattle.fibonacci.specs.Decode.{fibSamples}
-use Rattle.body_decode.specs.Body.{byTurns, frameBytes}
+use Rattle.laws.specs.Turns.{byTurns}
+use Rattle.body_decode.specs.Body.{frameBytes}
 use Rattle.body_decode.proofs.BodyLaws.{frame-length, frame-at}
 use Rattle.body_decode.proofs.NibbleLaws.{sample-first, sample-after}
-use Rattle.body_decode.proofs.InterleaveLaws.{by-turns-length, frame-stored}
+use Rattle.laws.proofs.TurnLaws.{by-turns-length, turn-stored}
 use Rattle.body_decode.proofs.interleave_fibonacci.Statement.{statement}
 use Rattle.body_decode.proofs.interleave_fibonacci.Tie as tie
 
@@ -105,7 +106,7 @@ loop-again c =
     let right-here : toZ w8 (l .b) ≡ getD rs (l .i) (pos 0) = l .inv .4 (omega arith) in (
       omega arith,
       simp length-set (l .inv .1),
-      frame-stored (frameBytes (a .n) ls) (frameBytes (a .n) rs) (a .out .now) (l .out) (l .i) _ _
+      turn-stored (frameBytes (a .n) ls) (frameBytes (a .n) rs) (a .out .now) (l .out) (l .i) 0 _ _
           (rw (frame-length (a .n) ls (omega arith)) (omega arith))
           (rw (frame-length (a .n) rs (omega arith)) (omega arith))
           (omega arith) (l .inv .2)

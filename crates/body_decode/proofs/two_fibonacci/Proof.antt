@@ -15,7 +15,8 @@ use Rattle.header.specs.declared.compression.Compression.the-variants.{Fibonacc
 use Rattle.fibonacci.specs.Decode.{fibSamples}
 use Rattle.fibonacci.proofs.DecodeLaws.{samples-length}
 use Rattle.samples.specs.Halves.{leftHalf, rightHalf}
-use Rattle.body_decode.specs.Body.{byTurns, frameBytes, twoChannels}
+use Rattle.laws.specs.Turns.{byTurns}
+use Rattle.body_decode.specs.Body.{frameBytes, twoChannels}
 use Rattle.body_decode.proofs.BodyLaws.{half-length, right-length, two-odd, two-short, two-fibonacci-is, halves-length, halves-are}
 use Rattle.body_decode.proofs.two_fibonacci.Statement.{statement}
 use Rattle.body_decode.proofs.two_fibonacci.Tie as tie

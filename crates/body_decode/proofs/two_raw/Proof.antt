@@ -11,7 +11,8 @@ use Rattle.refusal.specs.Outcome.{gives}
 use Rattle.refusal.proofs.OutcomeLaws.{outcome-fits, outcome-short}
 use Rattle.header.specs.declared.compression.Compression.the-variants.{None}
 use Rattle.samples.specs.Halves.{leftHalf, rightHalf}
-use Rattle.body_decode.specs.Body.{byTurns, twoChannels}
+use Rattle.laws.specs.Turns.{byTurns}
+use Rattle.body_decode.specs.Body.{twoChannels}
 use Rattle.body_decode.proofs.BodyLaws.{half-length, right-length, two-raw-is, raw-halves-length, raw-halves-are}
 use Rattle.body_decode.proofs.two_raw.Statement.{statement}
 use Rattle.body_decode.proofs.two_raw.Tie as tie

@@ -4,9 +4,8 @@ use mathlib.Core.Path.{refl, sym, _∙_}
 use denote.Ref.{now}
 use lib.ListN.{length}
 use Rattle.laws.specs.Buffer.{written}
-use Rattle.refusal.proofs.OutcomeLaws.{outcome-refused, outcome-fits, outcome-short}
+use Rattle.refusal.proofs.OutcomeLaws.{outcome-refused, outcome-fits, outcome-short, Gives, length-gives, length-refused, room-for}
 use Rattle.voice_write.specs.WriteVoice.{writeSheet}
-use Rattle.voice_write.proofs.RoomLaws.{Gives, length-gives, length-refused, room-for}
 use Rattle.voice_write.proofs.WriteLaws.{sidesOf}
 use borrow.Author.Needs.{needs}
 use Rattle.voice_write.proofs.encode.encode_voice.Statement.{statement}
@@ -44,7 +43,7 @@ returns c =
     let e = c .before .before in
     let a = entry (e .before .before) .args in
     let g = measured e in
-    outcome-short (writeSheet (now (a .sheet)) (sidesOf (now (a .left)) (now (a .right)))) (now (a .file)) (g .file) (g .is) (e .n .given .0 .0) (g .long) (c .if1 .taken)
+    outcome-short (writeSheet (now (a .sheet)) (sidesOf (now (a .left)) (now (a .right)))) (now (a .file)) (g .output) (g .is) (e .n .given .0 .0) (g .long) (c .if1 .taken)
 
 write-file-requires : tie.Need-write-file-requires
 write-file-requires c κs =
@@ -69,7 +68,7 @@ returns-3 c =
     let a = entry (e .before .before) .args in
     let g = measured e in
     let file = now (a .file) in
-    let fits = outcome-fits _ file (g .file) (g .is) (e .n .given .0 .0) (g .long) (written (g .file) file) (fitting c .if1 .left) refl in
+    let fits = outcome-fits _ file (g .output) (g .is) (e .n .given .0 .0) (g .long) (written (g .output) file) (fitting c .if1 .left) refl in
     (fits .0, c .before .before .write-file .ensures)
 
 pub encode-voice-spec : {M : Type 1} → statement M

@@ -6,9 +6,10 @@ use lib.ListN.{length}
 use Rattle.header.specs.Compression.{knownCompression}
 use Rattle.header.specs.declared.compression.KnownCompression.the-variants.{Refused}
 use Rattle.refusal.proofs.OutcomeLaws.{outcome-refused}
+use Rattle.sheet.proofs.SoundLaws.{if-sound}
 use Rattle.sheet.specs.Read.{readSheet}
-use Rattle.voice_write.specs.WriteVoice.{writeSheet}
-use Rattle.voice_write.proofs.RoomLaws.{sheet-sound, room-sound}
+use Rattle.voice_write.specs.WriteVoice.{writeVoice, writeSheet}
+use Rattle.voice_write.proofs.RoomLaws.{room-sound}
 use Rattle.voice_write.proofs.WriteLaws.{sidesOf, voice-unknown}
 use borrow.Author.Needs.{needs}
 use Rattle.voice_write.proofs.encode.write_file.Statement.{statement}
@@ -53,7 +54,7 @@ returns c =
     let unknown : knownCompression (v .header .«compression_byte») ≡ Refused n =
     rw (h .sheet-header .ensures) at (sym (c .before .before .compression .ensures) ∙ c .enum-told .given .1) in
     let accepted = room-sound (now (a .sheet)) k (a .n) (length (now (a .file))) (s .pre) in
-    outcome-refused o (now (a .file)) n (sheet-sound (now (a .sheet)) k accepted ∙ voice-unknown v k n unknown) .1
+    outcome-refused o (now (a .file)) n (if-sound (now (a .sheet)) (writeVoice v k) accepted ∙ voice-unknown v k n unknown) .1
 
 same-length : tie.Need-same-length
 same-length c = search needs

@@ -5,13 +5,14 @@ use Prim.Native.Nat.{_-_}
 use denote.Ref.{now}
 use lib.ListN.{length}
 use native.Mathlib.Omega.{arith}
-use Rattle.laws.proofs.PutLaws.{put-front}
+use Rattle.laws.proofs.PutLaws.{put-front, put-end}
+use Rattle.field.proofs.BigEndianLaws.{bytes-length}
 use Rattle.body_write.specs.BodyBytes.{bodyBytes}
 use Rattle.refusal.proofs.OutcomeLaws.{outcome-fits}
 use Rattle.sheet.specs.Read.{readSheet}
 use Rattle.voice_write.specs.WriteVoice.{contents, fileOf, writeSheet}
 use Rattle.voice_write.proofs.RoomLaws.{Writes, writes}
-use Rattle.voice_write.proofs.WriteLaws.{sidesOf, contents-length, file-length, number-end, file-put}
+use Rattle.voice_write.proofs.WriteLaws.{sidesOf, contents-length, file-length, file-put}
 use borrow.Author.Needs.{needs}
 use Rattle.voice_write.proofs.encode.write_known.Statement.{statement}
 use Rattle.voice_write.proofs.encode.write_known.Tie as tie
@@ -54,19 +55,19 @@ put32-requires c κs = search needs
 
 -- where the parts end
 named : (c : tie.After-put32) → c .put32 .result ≡ 4
-named c = number-end _ (c .put32 .ensures)
+named c = put-end (bytes-length 4 _) (c .put32 .ensures)
 
 put32-requires-2 : tie.Need-put32-requires-2
 put32-requires-2 c κs = omega (arith, named (name-put c))
 
 sized : (c : tie.After-put322) → c .put322 .result ≡ 8
-sized c = omega (arith, named (name-put (c .before)), number-end _ (c .put322 .ensures))
+sized c = omega (arith, named (name-put (c .before)), put-end (bytes-length 4 _) (c .put322 .ensures))
 
 put32-requires-3 : tie.Need-put32-requires-3
 put32-requires-3 c κs = omega (arith, sized (size-put c))
 
 typed : (c : tie.After-put323) → c .put323 .result ≡ 12
-typed c = omega (arith, sized (size-put (c .before)), number-end _ (c .put323 .ensures))
+typed c = omega (arith, sized (size-put (c .before)), put-end (bytes-length 4 _) (c .put323 .ensures))
 
 put-chunks-requires : tie.Need-put-chunks-requires
 put-chunks-requires c κs =

@@ -4,12 +4,12 @@ use mathlib.Core.Bool.{Bool, true, false}
 use mathlib.Core.Path.{_≡_, sym, ap, _∙_}
 use Prim.Native.Nat.{_^_, _<_}
 use denote.Ref.{now}
+use Rattle.refusal.specs.Outcome.{lengthOf}
 use Rattle.header.proofs.OctaveLaws.{total-is, total-not}
 use Rattle.header.specs.Octaves.{totalSamples, total}
 use Rattle.header.specs.declared.«voice_header».Total.the-variants as sum
 use Rattle.refusal.specs.declared.Output.the-variants.{Refused}
 use Rattle.sheet.specs.Read.{readSheet}
-use Rattle.voice_write.specs.Answers.{lengthOf}
 use Rattle.voice_write.proofs.WriteLaws.{sidesOf, suited, voice-octaves, voice-unsuited, voice-suited}
 use borrow.Author.Needs.{needs}
 use Rattle.voice_write.proofs.measure.known_length.Statement.{statement}

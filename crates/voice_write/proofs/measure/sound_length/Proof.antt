@@ -2,10 +2,10 @@
 -- Assumes nothing.
 use mathlib.Core.Path.{_≡_, sym, ap, _∙_}
 use denote.Ref.{now}
+use Rattle.refusal.specs.Outcome.{lengthOf}
 use Rattle.header.specs.Compression.{knownCompression}
 use Rattle.header.specs.declared.compression.KnownCompression.the-variants.{Refused}
 use Rattle.sheet.specs.Read.{readSheet}
-use Rattle.voice_write.specs.Answers.{lengthOf}
 use Rattle.voice_write.proofs.WriteLaws.{sidesOf, voice-unknown}
 use borrow.Author.Needs.{needs}
 use Rattle.voice_write.proofs.measure.sound_length.Statement.{statement}

@@ -5,11 +5,11 @@ use Prim.Native.Nat.{_+_, _%_}
 use denote.Ref.{now}
 use lib.ListN.{length}
 use native.Mathlib.Omega.{arith}
+use Rattle.refusal.specs.Outcome.{lengthOf}
 use Rattle.body_write.specs.BodyBytes.{bodyBytes}
 use Rattle.sheet_layout.proofs.SoundLaws.{sound-flat}
 use Rattle.refusal.specs.declared.Output.the-variants.{Length}
 use Rattle.sheet.specs.Read.{readSheet}
-use Rattle.voice_write.specs.Answers.{lengthOf}
 use Rattle.voice_write.specs.WriteVoice.{contents}
 use Rattle.voice_write.proofs.WriteLaws.{sidesOf, contents-length, file-length, flat-within, left-bound, right-within, held-fits, held-long}
 use borrow.Author.Needs.{needs}
