@@ -1,7 +1,7 @@
 -- Every sample of the sides lies within -128..127, and raw samples written one side after the other are read back.
 --     sides-samples     what BODY gives are samples
 --     raw-back          the sides of raw samples written left side first
--- Assumes length-none.
+-- Assumes nothing.
 use mathlib.Core.Path.{_≡_, refl, sym, ap, _∙_}
 use mathlib.Core.Bool.{Bool, true, false, _||_}
 use mathlib.Core.List.{List, [], _∷_, _++_, map, append-nil}
@@ -14,6 +14,7 @@ use lib.ListN.{length, getD, take, drop, length-map, length-append}
 use lib.Seq.{take-at, drop-at, take-all}
 use mir.Syntax.{w8}
 use mir.Val.{SFits}
+use Rattle.laws.proofs.Cases.{length-none}
 use Rattle.refusal.specs.Outcome.{gives}
 use Rattle.field.specs.Signed.{Samples, sampleOf, byteOf}
 use Rattle.field.proofs.SignedLaws.{sample-fits, sample-byte, none-fits, samples-take}
@@ -87,10 +88,6 @@ module _ (a b : List ℕ) (same : length b ≡ length a) where
   right-back =
       let all : length b ≤ length a = omega arith in
       rw (half-of, drop-at a b (length a) refl) (take-all (length a) b all)
-
-length-none : {A : Type 0} (l : List A) → length l ≡ 0 → l ≡ []
-length-none [] e = refl
-length-none (x ∷ l) e = absurd (omega arith)
 
 module _ (h : VoiceHeader) (small : totalSamples h < 2 ^ 64) where
   raw-channel : (l : List ℤ) → (eqb (hi h) 0 || eqb (length l) (totalSamples h)) ≡ true → Samples l → channelSamples h None (map byteOf l) ≡ gives l

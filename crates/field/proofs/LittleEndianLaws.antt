@@ -1,5 +1,5 @@
--- The laws of little-endian numbers: what was written reads back, at any width, whatever follows it. No proof elsewhere unfolds the
--- definitions, but for those of the functions that store them.
+-- The laws of little-endian numbers: what was written reads back, at any width, whatever follows it. Elsewhere only the proof
+-- of `put16_le`, and closed examples, unfold the definitions.
 -- Assumes nothing.
 use Prim.Native.Nat.{ℕ, zero, suc, _+_, _*_, _/_, _%_, _^_, _<_}
 use lib.ListN.{length}

@@ -10,7 +10,7 @@
 -- Assumes nothing.
 use Prim.Native.Nat.{ℕ, _+_, _-_, _*_, _/_, _^_, _≤_, _<_}
 use mathlib.Core.Bool.{Bool, true, false, cond}
-use mathlib.Core.List.{List, [], _∷_, _++_}
+use mathlib.Core.List.{List, [], _++_}
 use mathlib.Core.Path.{_≡_, refl, ap, ap₂, _∙_}
 use native.Mathlib.Nat.{add-comm, add-zero, mul-add, le-div-iff-mul-le, div-lt-iff-lt-mul}
 use native.Mathlib.Omega.{arith}
@@ -20,6 +20,7 @@ use lib.IntN.{ℤ}
 use lib.ListN.{length, take, drop, length-take, length-drop, take-append-drop}
 use lib.Pow.{pow-pos}
 use lib.Seq.{take-all}
+use Rattle.laws.proofs.Cases.{length-none}
 use Rattle.field.proofs.SignedLaws.{none-fits, samples-take, samples-drop}
 use Rattle.field.specs.Signed.{Samples}
 use Rattle.header.specs.Octaves.{hi, octaves, inOctave, totalSamples}
@@ -198,12 +199,8 @@ module _ (p : Part) where
       go Absent = refl
 
   pub part-none : (xs : List ℤ) → length xs ≡ 0 → partOf p xs ≡ []
-  part-none xs e = empty (partOf p xs) (go p)
+  part-none xs e = length-none (partOf p xs) (go p)
     where
-      empty : (l : List ℤ) → length l ≡ 0 → l ≡ []
-      empty [] z = refl
-      empty (x ∷ l) z = absurd (omega arith)
-
       go : (p : Part) → length (partOf p xs) ≡ 0
       go (At start n) = omega (arith, length-take n (drop start xs), length-drop start xs)
       go Absent = refl

@@ -19,7 +19,7 @@ use Rattle.sheet.specs.Read.{readSheet}
 use Rattle.sheet.specs.Voice.{Voice}
 use Rattle.sheet.specs.declared.judge.Judged.the-variants.{Sound}
 use Rattle.wave.proofs.RiffLaws.{held-chunk, file-parts}
-use Rattle.wave.proofs.WaveLaws.{stereo, lefts, rights, octaves-same, held-length, accepted}
+use Rattle.wave.proofs.WaveLaws.{stereo, lefts, rights, octaves-same, contents-are, held-length, accepted}
 use Rattle.wave.specs.Helpers.{heldFor, frontBytes}
 use Rattle.wave.specs.Riff.{riff}
 use Rattle.wave.specs.Wave.{valuesOf, channelsOf, octaveContents, octaveFile, octaveWave, octaveWaveOf}
@@ -69,6 +69,5 @@ pub file-put : {d d₁ d₂ d₃ : List ℕ} {p q r : ℕ} (v : Voice) (s : Side
     → Put d 0 (frontBytes (channelsOf (stereo v s k)) (v .header .«samples_per_sec») (heldFor n) n) d₁ p
     → Put d₁ p (valuesOf (stereo v s k) (lefts v s k) (rights v s k)) d₂ q → Put d₂ q (pad n) d₃ r
     → Put d 0 (octaveFile v s k) d₃ r
-unfolding octaveContents
 file-put v s k n e front values end =
-    rw (file-parts (channelsOf (stereo v s k)) (v .header .«samples_per_sec») (valuesOf (stereo v s k) (lefts v s k) (rights v s k)), ← e) (put-then (put-then front values) end)
+    rw (contents-are v s k, file-parts (channelsOf (stereo v s k)) (v .header .«samples_per_sec») (valuesOf (stereo v s k) (lefts v s k) (rights v s k)), ← e) (put-then (put-then front values) end)

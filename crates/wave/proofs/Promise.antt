@@ -2,7 +2,7 @@
 -- Assumes nothing.
 use Prim.Native.Nat.{ℕ}
 use mathlib.Core.Bool.{false}
-use mathlib.Core.List.{List, [], _∷_}
+use mathlib.Core.List.{List, [], _∷_, _++_}
 use mathlib.Core.Path.{_≡_, refl, sym, _∙_}
 use lib.IntN.{negsuc}
 use lib.ListN.{length}
@@ -20,10 +20,11 @@ use Rattle.sheet.specs.Read.{readSheet}
 use Rattle.sheet.specs.Voice.{Voice}
 use Rattle.sheet_grammar.proofs.Theorem.{allowed-read}
 use Rattle.wave.proofs.ReadBack.{reads-back}
+use Rattle.wave.proofs.WaveLaws.{before19, rules-are, wave-is}
 use Rattle.wave.specs.Promise.{oneSampleFile, Promise}
 use Rattle.wave.specs.ReadBack.{ReadBack}
 use Rattle.wave.specs.Riff.{riff, riffHead, riffChunk, formatBytes, waveContents}
-use Rattle.wave.specs.Wave.{valueOf, valuesOf, octaveFile, waveRules, octaveWave, octaveWaveOf}
+use Rattle.wave.specs.Wave.{valueOf, valuesOf, octaveContents, octaveFile, lengthRules, waveRules, octaveWave, octaveWaveOf}
 
 sheets-back : (sheet : List ℕ) (s : Sides) (k : ℕ) (file : List ℕ) → Bytes sheet → Samples (s .left) → Samples (s .right)
     → octaveWaveOf sheet s k ≡ gives file → ReadBack (readSheet sheet) s k file
@@ -46,13 +47,13 @@ one-sample = refl
 
 order : (v : Voice) (s : Sides) (k places : ℕ)
     → numbersOf (withBuffer (waveRules v s k) (octaveFile v s k) places) ≡ compression ∷ octaveTotal ∷ sampleLengths ∷ noOctave ∷ voiceRate ∷ formLength ∷ bufferShort ∷ []
-unfolding waveRules
-order v s k places = refl
+order v s k places = rw (rules-are v s k) refl
 
 answered : (v : Voice) (s : Sides) (k places : ℕ)
     → answer (octaveWave v s k) places ≡ answerBy (firstHolding (withBuffer (waveRules v s k) (octaveFile v s k) places)) (length (octaveFile v s k))
-unfolding octaveWave waveRules
-answered v s k places = answered-by (waveRules v s k) (numbered-by (waveRules v s k) tt) (octaveFile v s k) places
+answered v s k places =
+    let rules = before19 v s k ++ lengthRules (octaveContents v s k) in
+    rw (wave-is v s k, rules-are v s k) (answered-by rules (numbered-by rules tt) (octaveFile v s k) places)
 
 pub promise : Promise
 promise = record {

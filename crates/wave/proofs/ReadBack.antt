@@ -1,8 +1,8 @@
 -- A WAVE file that was written reads back: taken apart by its own lengths it gives the octave of each side.
 -- Assumes nothing.
-use Prim.Native.Nat.{ℕ, _+_, _*_, _<_, _^_}
+use Prim.Native.Nat.{ℕ, _+_, _<_, _^_}
 use mathlib.Core.Bool.{Bool, true, false}
-use mathlib.Core.List.{List, [], _++_, map, append-assoc}
+use mathlib.Core.List.{List, [], _++_, map}
 use mathlib.Core.Path.{_≡_, refl, sym, ap, _∙_}
 use native.Mathlib.Omega.{arith}
 use borrow.Author.Tests.{eqb-true}
@@ -14,9 +14,8 @@ use Rattle.laws.specs.Turns.{byTurns}
 use Rattle.refusal.specs.Outcome.{gives}
 use Rattle.chunk.specs.ChunkBytes.{pad}
 use Rattle.field.proofs.BigEndianLaws.{bytes-length}
-use Rattle.field.proofs.LittleEndianLaws.{little-length, little-back}
 use Rattle.field.specs.BigEndian.{bigEndianBytes}
-use Rattle.field.specs.LittleEndian.{littleEndian, littleEndianBytes}
+use Rattle.field.specs.LittleEndian.{littleEndian}
 use Rattle.field.specs.Signed.{Samples}
 use Rattle.header.specs.Header.{Fitting}
 use Rattle.header.specs.declared.«voice_header».VoiceHeader.{VoiceHeader}
@@ -28,47 +27,15 @@ use Rattle.octaves.specs.Octave.{octavePart}
 use Rattle.octaves.specs.Side.{ofSide}
 use Rattle.octaves.specs.declared.side.Side.{Side}
 use Rattle.octaves.specs.declared.side.Side.the-variants.{Left, Right}
-use Rattle.wave.proofs.RiffLaws.{head-length, format-length, contents-length, held-chunk, file-parts}
+use Rattle.wave.proofs.RiffLaws.{head-length, format-length, contents-length, held-chunk, file-order, head-size, format-channels, format-rate}
 use Rattle.wave.proofs.ValueLaws.{values-two, values-one, samples-back}
-use Rattle.wave.proofs.WaveLaws.{stereo, lefts, rights, octaves-same, accepted}
-use Rattle.wave.specs.Helpers.{heldFor, frontBytes}
+use Rattle.wave.proofs.WaveLaws.{stereo, lefts, rights, octaves-same, contents-are, accepted}
+use Rattle.wave.specs.Helpers.{heldFor}
 use Rattle.wave.specs.ReadBack.{riffLength, channelsIn, rateIn, afterFormat, payloadOf, sideValues, sampleFrom, ReadBack}
 use Rattle.wave.specs.Riff.{riff, waveType, fmt, dataName, riffHead, riffChunk, formatBytes, waveContents}
-use Rattle.wave.specs.Wave.{octaveOf, valueOf, valuesOf, channelsOf, octaveContents, octaveWave}
+use Rattle.wave.specs.Wave.{octaveOf, valueOf, valuesOf, channelsOf, octaveWave}
 
 -- ---- a file by its parts
-
--- the length behind a name
-head-size : (id n : ℕ) (rest : List ℕ) → n < 2 ^ 32 → littleEndian 4 (drop 4 (riffHead id n ++ rest)) ≡ n
-unfolding riffHead
-head-size id n rest h =
-    let name = bigEndianBytes 4 id in
-    let size = littleEndianBytes 4 n in
-    rw (append-assoc name size rest, drop-at name (size ++ rest) 4 (bytes-length 4 id)) (little-back 4 n rest h)
-
--- the numbers of fmt, whatever follows it
-module _ (channels rate : ℕ) (rest : List ℕ) where
-  -- what follows the rate
-  abbrev behind : List ℕ
-  behind = littleEndianBytes 4 (rate * channels) ++ (littleEndianBytes 2 channels ++ (littleEndianBytes 2 8 ++ rest))
-
-  format-parts : formatBytes channels rate ++ rest ≡ littleEndianBytes 2 1 ++ (littleEndianBytes 2 channels ++ (littleEndianBytes 4 rate ++ behind))
-  unfolding formatBytes
-  format-parts = simp append-assoc
-
-  format-channels : channels < 2 ^ 16 → littleEndian 2 (drop 2 (formatBytes channels rate ++ rest)) ≡ channels
-  format-channels h =
-      rw (format-parts, drop-at (littleEndianBytes 2 1) (littleEndianBytes 2 channels ++ (littleEndianBytes 4 rate ++ behind)) 2 (little-length 2 1))
-      (little-back 2 channels (littleEndianBytes 4 rate ++ behind) h)
-
-  format-rate : rate < 2 ^ 32 → littleEndian 4 (drop 4 (formatBytes channels rate ++ rest)) ≡ rate
-  format-rate h =
-      let second = littleEndianBytes 2 channels ++ (littleEndianBytes 4 rate ++ behind) in
-      let past : drop 4 (formatBytes channels rate ++ rest) ≡ littleEndianBytes 4 rate ++ behind =
-      rw format-parts (sym (drop-drop 2 2 (littleEndianBytes 2 1 ++ second))
-      ∙ ap (drop 2) (drop-at (littleEndianBytes 2 1) second 2 (little-length 2 1))
-      ∙ drop-at (littleEndianBytes 2 channels) (littleEndianBytes 4 rate ++ behind) 2 (little-length 2 channels)) in
-      rw past (little-back 4 rate behind h)
 
 -- a whole file
 module _ (channels rate : ℕ) (values : List ℕ) (few : channels < 2 ^ 16) (slow : rate < 2 ^ 32) (fits : heldFor (length values) < 2 ^ 32) where
@@ -82,18 +49,14 @@ module _ (channels rate : ℕ) (values : List ℕ) (few : channels < 2 ^ 16) (sl
   abbrev told : List ℕ
   told = formatBytes channels rate ++ data′
 
-  in-order : file ≡ riffHead riff (heldFor (length values)) ++ (bigEndianBytes 4 waveType ++ (riffHead fmt 16 ++ told))
-  unfolding frontBytes
-  in-order = file-parts channels rate values ∙ simp append-assoc
-
   riff-is : riffLength file ≡ heldFor (length values)
-  riff-is = rw in-order (head-size riff (heldFor (length values)) (bigEndianBytes 4 waveType ++ (riffHead fmt 16 ++ told)) fits)
+  riff-is = rw (file-order channels rate values) (head-size riff (heldFor (length values)) (bigEndianBytes 4 waveType ++ (riffHead fmt 16 ++ told)) fits)
 
   -- from 12 on, from 20 on, from 36 on
   from12 : drop 12 file ≡ riffHead fmt 16 ++ told
   from12 =
       let rest = bigEndianBytes 4 waveType ++ (riffHead fmt 16 ++ told) in
-      rw in-order (sym (drop-drop 4 8 (riffHead riff (heldFor (length values)) ++ rest))
+      rw (file-order channels rate values) (sym (drop-drop 4 8 (riffHead riff (heldFor (length values)) ++ rest))
       ∙ ap (drop 4) (drop-at (riffHead riff (heldFor (length values))) rest 8 (head-length riff (heldFor (length values))))
       ∙ drop-at (bigEndianBytes 4 waveType) (riffHead fmt 16 ++ told) 4 (bytes-length 4 waveType))
 
@@ -170,7 +133,6 @@ few-channels false = omega arith
 -- a header's rate has 16 bits
 pub reads-back : (v : Voice) (s : Sides) (k : ℕ) (file : List ℕ) → Fitting (v .header) → Samples (s .left) → Samples (s .right)
     → octaveWave v s k ≡ gives file → ReadBack v s k file
-unfolding octaveContents
 reads-back v s k file fitting lefts-fit rights-fit w =
     let a = accepted v s k file w in
     let two = stereo v s k in
@@ -179,12 +141,12 @@ reads-back v s k file fitting lefts-fit rights-fit w =
     let right = rights v s k in
     let values = valuesOf two left right in
     let channels = channelsOf two in
-    let fits : heldFor (length values) < 2 ^ 32 = omega (arith, a .fits, contents-length channels rate values) in
+    let fits : heldFor (length values) < 2 ^ 32 = omega (arith, a .fits, ap length (contents-are v s k), contents-length channels rate values) in
     let few = few-channels two in
     let slow : rate < 2 ^ 32 = omega (arith, fitting .rate) in
     let ls = part-samples (octavePart (v .header) (length (s .left)) k) (s .left) lefts-fit in
     let rs = part-samples (octavePart (v .header) (length (s .right)) k) (s .right) rights-fit in
-    rw (a .is) (record {
+    rw (a .is, contents-are v s k) (record {
       whole = whole-is channels rate values few slow fits;
       begins = begins-at channels rate values few slow fits;
       padded = riff-is channels rate values few slow fits ∙ sym (ap (λ (l : List ℕ). heldFor (length l)) (payload-is channels rate values few slow fits));

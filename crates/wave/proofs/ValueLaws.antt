@@ -1,5 +1,5 @@
 -- Laws of a WAVE's values: how many there are, and that less 128 they are the samples again.
--- Beside them only the proof of `value_of` looks into `valueOf`.
+-- Elsewhere only the proof of `value_of`, and closed examples, look into `valueOf`.
 -- Assumes nothing.
 use Prim.Native.Nat.{ℕ, suc, _+_, _*_, _≤_}
 use mathlib.Core.Bool.{Bool, true, false}

@@ -1,6 +1,7 @@
 -- Laws of an octave's file: how long it is, when it is refused, and what an octave with a file fulfils.
 --     octaves-same                   sides that suit have octaves of one length
---     held-length                    what the RIFF holds
+--     held-length                    how many bytes the RIFF holds
+--     contents-are, rules-are        what it holds, and the rules, by their parts
 --     wave-is                        the file by the rules, one after another
 --     wave-refused, wave-length      the file by the rules before 19, and its length once they are passed
 --     Accepted, accepted             all that is asked of an octave with a file
@@ -29,7 +30,7 @@ use Rattle.voice_rules.specs.Rules.{voiceRules}
 use Rattle.wave.proofs.RiffLaws.{contents-length, held-chunk}
 use Rattle.wave.proofs.ValueLaws.{values-length}
 use Rattle.wave.specs.Helpers.{heldFor, lengthFor}
-use Rattle.wave.specs.Riff.{riff}
+use Rattle.wave.specs.Riff.{riff, waveContents}
 use Rattle.wave.specs.Wave.{octaveOf, valuesOf, channelsOf, octaveContents, octaveFile, sourceRules, lengthRules, waveRules, octaveWave}
 
 module _ (v : Voice) (s : Sides) (k : ℕ) where
@@ -58,10 +59,14 @@ module _ (v : Voice) (s : Sides) (k : ℕ) where
 
   -- ---- how long
 
-  pub held-length : suits ≡ true → length (octaveContents v s k) ≡ heldFor (channelsOf stereo * length lefts)
+  pub contents-are : octaveContents v s k ≡ waveContents (channelsOf stereo) (h .«samples_per_sec») (valuesOf stereo lefts rights)
   unfolding octaveContents
+  contents-are = refl
+
+  pub held-length : suits ≡ true → length (octaveContents v s k) ≡ heldFor (channelsOf stereo * length lefts)
   held-length suit =
-      contents-length (channelsOf stereo) (h .«samples_per_sec») (valuesOf stereo lefts rights)
+      ap length contents-are
+      ∙ contents-length (channelsOf stereo) (h .«samples_per_sec») (valuesOf stereo lefts rights)
       ∙ ap heldFor (values-length stereo lefts rights (octaves-same suit))
 
   -- ---- by the rules
@@ -70,9 +75,13 @@ module _ (v : Voice) (s : Sides) (k : ℕ) where
   abbrev pub before19 : List Rule
   before19 = voiceRules v (length (s .left)) (length (s .right)) ++ sourceRules h k
 
+  pub rules-are : waveRules v s k ≡ before19 ++ lengthRules (octaveContents v s k)
+  unfolding waveRules
+  rules-are = refl
+
   pub wave-is : octaveWave v s k ≡ unlessRefused (firstHolding (before19 ++ lengthRules (octaveContents v s k))) (octaveFile v s k)
-  unfolding octaveWave waveRules
-  wave-is = refl
+  unfolding octaveWave
+  wave-is = rw rules-are
 
   before19-numbered : Numbered before19
   before19-numbered = numbered-by before19 tt

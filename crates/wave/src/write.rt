@@ -14,6 +14,7 @@ ghost use Rattle.refusal.specs.Outcome.{answer, bufferAfter};
 ghost use Rattle.refusal.specs.Room.{Room};
 ghost use Rattle.wave.specs.Wave.{channelsOf, octaveWaveOf};
 
+// As many as fmt says.
 fn channel_count(stereo: bool) -> u16
     ensures { λ r. ⌜ r ≡ channelsOf stereo ⌝ }
 {
