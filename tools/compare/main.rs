@@ -4,6 +4,7 @@
 //!     compare encode N [SEED]    voices: refusal or file
 //!     compare parts N [SEED]     codecs, octaves, loops, levels, floats
 //!     compare note N [SEED]      notes: fills and key-ups against a plain note, written from the specification (plain_note.rs)
+//!     compare note-long N [SEED] the same in blocks of up to 20,000 frames
 //!     compare wave N [SEED]      octaves as WAVE files against a plain version (plain_wave.rs), and taken apart again
 //!     compare list               the fixed list that the gate replays, on standard output (see list.rs)
 //!     compare bench              speed against the original and, for notes and WAVE files, against the plain versions
@@ -38,7 +39,8 @@ fn main() {
         Some("parse") => parse::run(number(1, 1_000_000), number(2, 1)),
         Some("encode") => encode::run(number(1, 1_000_000), number(2, 1)),
         Some("parts") => parts::run(number(1, 1_000_000), number(2, 1)),
-        Some("note") => note::run(number(1, 1_000_000), number(2, 1)),
+        Some("note") => note::run(number(1, 1_000_000), number(2, 1), 60),
+        Some("note-long") => note::run(number(1, 10_000), number(2, 1), 20_000),
         Some("wave") => wave::run(number(1, 1_000_000), number(2, 1)),
         Some("list") => list::run(args.get(1).expect("a folder to write to")),
         Some("bench") => { bench::run(); note_bench::run(); wave_bench::run(); }
@@ -48,7 +50,7 @@ fn main() {
         Some("rewrite") => files::rewrite(&args[1], &args[2]),
         Some("wave-file") => files::wave(&args[1], &args[2], number(3, 0).try_into().expect("an octave")),
         _ => {
-            eprintln!("usage: compare parse|encode|parts|note|wave N [SEED] | list FOLDER | bench | note-bench | wave-bench | raw|rewrite FILE OUT | wave-file FILE OUT K");
+            eprintln!("usage: compare parse|encode|parts|note|note-long|wave N [SEED] | list FOLDER | bench | note-bench | wave-bench | raw|rewrite FILE OUT | wave-file FILE OUT K");
             std::process::exit(2);
         }
     }

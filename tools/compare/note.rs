@@ -79,8 +79,8 @@ fn fresh(r: &mut make::Rng, octaves: u8) -> plain::Note {
     n
 }
 
-/// One note through a list of calls; the numbers that turned fills back are counted.
-fn case(r: &mut make::Rng, seen: &mut [u64; 64]) {
+/// One note through a list of calls, in blocks of fewer than `most` frames; the numbers that turned fills back are counted.
+fn case(r: &mut make::Rng, most: u64, seen: &mut [u64; 64]) {
     let (v, left, right) = voice(r);
     let sheet = rust_side::flat(&v);
     assert_eq!(abi::sheet_judge(&sheet), 0);
@@ -96,7 +96,7 @@ fn case(r: &mut make::Rng, seen: &mut [u64; 64]) {
             assert_eq!(got.plain(), want, "key-up {v:?}");
             continue;
         }
-        let places = 2 * r.below(60) as usize + r.once(12) as usize;
+        let places = 2 * r.below(most) as usize + r.once(12) as usize;
         let mut a = vec![0x5A5Ai16; places];
         let mut b = a.clone();
         let number = sound.refusal(want, places);
@@ -126,10 +126,10 @@ fn case(r: &mut make::Rng, seen: &mut [u64; 64]) {
     }
 }
 
-pub fn run(n: u64, seed: u64) {
+pub fn run(n: u64, seed: u64, most: u64) {
     let mut r = make::Rng::new(seed);
     let mut seen = [0u64; 64];
-    for _ in 0..n { case(&mut r, &mut seen); }
+    for _ in 0..n { case(&mut r, most, &mut seen); }
     println!("{n} notes, no difference; fills by refusal, 0 accepted:");
     for (i, c) in seen.iter().enumerate().filter(|(_, c)| **c > 0) { println!("  {i:2} {c}"); }
 }

@@ -64,6 +64,7 @@ pub fn run() {
     let plain_loop = Voice::default().with_header(looped(1000));
     let step = 12_000;
     measure("held loop, no envelope", &plain_loop, &left, &[], step, false);
+    measure("held loop, more than a sample a frame", &plain_loop, &left, &[], 70_000, false);
     let attack = points(&[(50, 65536), (100, 40000), (200, 50000), (400, 45000)]);
     let release = points(&[(300, 20000), (300, 8000), (900, 0)]);
     let shaped = Voice::default().with_header(looped(1000)).with_attack(attack).with_release(release);

@@ -1,13 +1,14 @@
--- A scaled number is no larger than it was, and a level on the way lies between the two.
+-- A scaled number is no larger than it was, and is the same where all of it is taken; a level on the way lies between the two.
 -- Assumes nothing.
 use mathlib.Core.Path.{_≡_}
-use Prim.Native.Nat.{ℕ, _-_, _*_, _/_, _≤_}
-use native.Mathlib.Nat.{div-le-of-le-mul, mul-le-mul-left, mul-le-mul-right}
+use Prim.Native.Nat.{ℕ, _-_, _*_, _/_, _≤_, _<_}
+use native.Mathlib.Nat.{div-le-of-le-mul, mul-div-cancel, mul-le-mul-left, mul-le-mul-right}
 use native.Mathlib.Omega.{arith}
 use lib.IntN.{ℤ, pos, _-ℤ_, _*ℤ_}
+use lib.Signed.{quotZ}
 use mir.Syntax.{Width, w32}
 use mir.Val.{SFits}
-use Rattle.laws.proofs.Signed.{up, dn, zarith, known, apart, sum, diff, times, quot}
+use Rattle.laws.proofs.Signed.{up, dn, zarith, known, eqZ, apart, sum, diff, times, quot}
 use Rattle.envelope.specs.Level.{scaledBy, onTheWay}
 
 part : (a n d : ℕ) → n ≤ d → a * n / d ≤ a
@@ -33,6 +34,15 @@ scaled-parts x n d h =
 -- so, at every width, a number that fits still fits when it is scaled
 pub scaled-fits : {w : Width} (x : ℤ) (n d : ℕ) → n ≤ d → SFits w x → SFits w (scaledBy x n d)
 scaled-fits x n d h f = omega (zarith, known f, scaled-parts x n d h)
+
+-- all of it
+pub scaled-whole : (x : ℤ) (n d : ℕ) → 0 < d → n ≡ d → x ≡ scaledBy x n d
+unfolding scaledBy
+scaled-whole x n d z e =
+    let q = quot (x *ℤ pos d) d in
+    let up-same : up (quotZ (x *ℤ pos d) (pos d)) ≡ up x = rw (q .above, times x d .above) (mul-div-cancel (up x) z) in
+    let dn-same : dn (quotZ (x *ℤ pos d) (pos d)) ≡ dn x = rw (q .below, times x d .below) (mul-div-cancel (dn x) z) in
+    rw e (eqZ x (quotZ (x *ℤ pos d) (pos d)) (omega arith))
 
 -- a product of a bounded number
 pub bounded : (a n b : ℕ) → a ≤ b → a * n ≤ b * n

@@ -12,11 +12,14 @@ fn scaled_wide(x: i64, n: u32, d: u32) -> i64
     x * n as i64 / d as i64
 }
 
-// x × n / d, cut toward zero, where n is at most d: no larger than x.
+// x × n / d, cut toward zero, where n is at most d: no larger than x, and x itself where n is d, as at full level, volume or share.
 pub fn scaled(x: i32, n: u32, d: u32) -> i32
     requires { ⌜ (n ≤ d) × (0 < d) ⌝ }
     ensures { λ r. ⌜ r ≡ scaledBy x n d ⌝ }
 {
+    if n == d {
+        return x;
+    }
     scaled_wide(x as i64, n, d) as i32
 }
 

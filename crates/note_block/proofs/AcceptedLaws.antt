@@ -2,7 +2,8 @@
 --     in-octave                             the octave lies within the samples, and the segments lie within it
 --     fade-fits, fade-ends                  a fade has a sequence, whose path is short, and ends with the path
 --     sides-same                            two sides are of one length
---     even-places, slow-step, some-rate     the buffer, the step and the rate
+--     even-places, slow-step                the buffer and the step
+--     some-rate, slow-rate                  the rate
 --     key-up-then                           a key-up isn't ahead of the frames filled
 -- Assumes nothing.
 use Prim.Native.Nat.{ℕ, _+_, _-_, _*_, _%_, _≤_, _<_, _^_}
@@ -126,8 +127,15 @@ module _ (v : Voice) (left right : ℕ) (n : Playing) (frames places : ℕ) (acc
   pub slow-step : n .step ≤ 16777216
   slow-step = ltb-false 16777216 (n .step) (neither (eqb (n .step) 0) (ltb 16777216 (n .step)) (parts .note .1 .0) .1)
 
+  -- the rate isn't refused
+  rate-taken : (eqb (n .rate) 0 ≡ false) × (ltb 192000 (n .rate) ≡ false)
+  rate-taken = neither (eqb (n .rate) 0) (ltb 192000 (n .rate)) (parts .note .1 .1 .0)
+
   pub some-rate : 0 < n .rate
-  some-rate = omega (arith, eqb-false (n .rate) 0 (neither (eqb (n .rate) 0) (ltb 192000 (n .rate)) (parts .note .1 .1 .0) .0))
+  some-rate = omega (arith, eqb-false (n .rate) 0 (rate-taken .0))
+
+  pub slow-rate : n .rate ≤ 192000
+  slow-rate = ltb-false 192000 (n .rate) (rate-taken .1)
 
   pub key-up-then : keyUpAhead (n .key) frames ≡ false
   key-up-then = parts .note .1 .1 .1 .0

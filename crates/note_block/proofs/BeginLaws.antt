@@ -35,7 +35,7 @@ use Rattle.note_rules.proofs.SequenceLaws.{part-segments, part-whole}
 use Rattle.note_block.specs.Block.{sequencePart, BlockReady}
 use Rattle.note_block.specs.Stages.{isThere}
 use Rattle.note_block.proofs.SheetLaws.{segments-at, sequence-is}
-use Rattle.note_block.proofs.AcceptedLaws.{in-octave, fade-fits, fade-ends, sides-same, slow-step, some-rate, key-up-then}
+use Rattle.note_block.proofs.AcceptedLaws.{in-octave, fade-fits, fade-ends, sides-same, slow-step, some-rate, slow-rate, key-up-then}
 
 module _ (n : Playing) (frames places : ℕ) (sheet : List ℕ) (l : Layout) (left right : List ℤ) (bytes : (i : ℕ) → Fits w8 (getD sheet i 0)) (sound : judged sheet ≡ Sound)
     (is : l ≡ layoutOf (readSheet sheet)) (accepted : firstHolding (fillRules (readSheet sheet) (length left) (length right) n frames places) ≡ 0) (small : length left < 2 ^ 63) where
@@ -70,6 +70,7 @@ module _ (n : Playing) (frames places : ℕ) (sheet : List ℕ) (l : Layout) (le
             sides-are = λ two. omega (arith, sides-same (readSheet sheet) (length left) (length right) n frames places accepted (sym (gains-stereo (readSheet sheet) (n .octave)) ∙ two));
             fade-ends = λ fades q i e. fade-ends (readSheet sheet) (length left) (n .octave) fades q i (sym (place-is q) ∙ e);
             rate-some = some-rate (readSheet sheet) (length left) (length right) n frames places accepted;
+            rate-fits = slow-rate (readSheet sheet) (length left) (length right) n frames places accepted;
             step-fits = slow-step (readSheet sheet) (length left) (length right) n frames places accepted;
             key-then = key-up-then (readSheet sheet) (length left) (length right) n frames places accepted;
             in-time = omega arith;

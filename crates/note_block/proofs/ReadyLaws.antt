@@ -52,8 +52,7 @@ module _ (n : Playing) (frames : ℕ) (sheet : List ℕ) (l : Layout) (g : Gains
         samples-are = ready .samples-are;
         sides-are = ready .sides-are;
         fade-ends = ready .fade-ends;
-        rate-some = rw rate (ready .rate-some);
-        step-fits = rw step (ready .step-fits);
+        timed = record { rate-some = rw rate (ready .rate-some); rate-fits = rw rate (ready .rate-fits); step-fits = rw step (ready .step-fits) };
         since-then = since;
         in-time = ready .in-time;
         room = ready .room;

@@ -38,12 +38,13 @@ pub record BlockReady (n : Playing) (frames : ℕ) (sheet : List ℕ) (l : Layou
   pub sides-are : g .stereo ≡ true → length left ≤ length right
   pub fade-ends : g .fades ≡ true → (q i : ℕ) → placeOf path (sequencePart sheet) q ≡ some i → q < g .«path_length»
   pub rate-some : 0 < n .rate
+  pub rate-fits : n .rate ≤ 192000
   pub step-fits : n .step ≤ 16777216
   pub key-then : keyUpAhead (n .key) frames ≡ false
   pub in-time : frames + d < 2 ^ 32
   pub room : 2 * d ≤ length out
 
--- d frames of the note at the front of the buffer, and how many of them aren't over
+-- of d frames of the note those that aren't over, at the front of the buffer, and how many
 abbrev pub BlockPlayed : Playing → ℕ → List ℕ → List ℤ → List ℤ → ℕ → List ℤ → List ℤ → ℕ → Type 0
 BlockPlayed n frames sheet left right d before after count =
     Played (frame (readSheet sheet) (record { left = left; right = right }) n) frames d before after count

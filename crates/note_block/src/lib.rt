@@ -30,7 +30,8 @@ ghost use Rattle.refusal.specs.Rules.{firstHolding};
 ghost use Rattle.note_rules.specs.Rules.{fillRules};
 ghost use Rattle.note_block.specs.Block.{BlockReady, BlockPlayed};
 
-// d frames from the frames filled on. A block is held or released as a whole, since a key-up is never ahead of it.
+// Of d frames from the frames filled on those that aren't over, and how many. A block is held or released as a whole, since a key-up is
+// never ahead of it.
 fn play_stage(
     n: Playing,
     frames: u32,
@@ -96,6 +97,6 @@ pub fn next_block(
     let room = 4294967295 - frames as usize;
     let d = least(out.len() / 2, room);
     let count = play_stage(n, frames, sheet, l, g, path, left, right, d, out);
-    silence_from(out, 2 * d);
+    silence_from(out, 2 * count);
     count
 }

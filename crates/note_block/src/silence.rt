@@ -1,4 +1,4 @@
-// What follows the last frame that a note can have.
+// What follows the frames that aren't over: silence, to the buffer's end.
 ghost use mathlib.Core.Path.{_≡_};
 ghost use mathlib.Core.List.{_++_};
 ghost use Prim.Native.Nat.{_-_, _≤_, min};

@@ -3,7 +3,7 @@
 --     passed-none, passed-more    where it begins, and one point more
 --     stopped-way, stopped-rest   what it hands back: on the way, or past every point
 --     stays, begun                a cursor that isn't moved, and one at the front
---     stood, follow               a cursor that follows an envelope says what is so of its time, and still follows it when moved on
+--     stood, follow, follow-on    a cursor that follows an envelope says what is so, and still follows it moved on, or from later on
 --     level-small, moved-small    its level is at most 65,536
 -- Assumes nothing.
 use Prim.Native.Nat.{ℕ, _+_, _-_, _≤_, _<_}
@@ -18,15 +18,16 @@ use mir.Facts.{toZ-ofZ}
 use mir.Syntax.{w32}
 use mir.Val.{SFits, toZ, ofZ}
 use native.Mathlib.Omega.{arith}
+use Rattle.envelope.specs.Envelope.{levelAt}
 use Rattle.envelope.specs.Level.{onTheWay}
 use Rattle.small_chunks.specs.Envelope.{pointOf}
 use Rattle.small_chunks.specs.Pan.{heldToUnity}
 use Rattle.small_chunks.specs.declared.points.EgPoint.{EgPoint}
 use Rattle.small_chunks.proofs.PanLaws.{held-le}
 use Rattle.sheet.specs.Allowed.{All}
-use Rattle.sheet_layout.specs.Members.{Whole, nextMember}
+use Rattle.sheet_layout.specs.Members.{Whole, pointsIn, nextMember}
 use Rattle.sheet_layout.proofs.NextLaws.{next-within, next-stands, next-same, member-long, member-whole}
-use Rattle.note_envelope.specs.Cursor.{levelFrom, endFrom, Ready, Moved, Stood, Follows}
+use Rattle.note_envelope.specs.Cursor.{levelFrom, endFrom, curve, Ready, Moved, Stood, Follows}
 use Rattle.note_envelope.specs.declared.EnvelopeCursor.{EnvelopeCursor}
 use Rattle.note_envelope.proofs.PointLaws.{level-front, end-front, level-next, end-next, level-pass, end-pass, level-way, end-way, level-rest, end-rest}
 
@@ -95,88 +96,94 @@ module _ (part : List ℕ) (e : EnvelopeCursor) (t at₀ at before : ℕ) (level
   level-later : (s : ℕ) → t ≤ s → levelFrom part at before level s ≡ levelFrom part (e .at) (e .before) (e .level) s
   level-later s h = rw (toZ-ofZ fits, from) at (p .later s h) ∙ level-next part (e .at) (e .before) (e .level) s
 
-  stopped : (ended : Bool) → now ≡ heldToUnity (levelFrom part at before level t) → ended ≡ leb (endFrom part at before) t
-      → Moved part e t (record { at = at; before = before; level = level; ms = t; now = now; ended = ended })
-  stopped ended n d =
+  stopped : (ended : Bool) (until : ℕ) → t < until → ((s : ℕ) → t ≤ s → s < until → now ≡ heldToUnity (levelFrom part at before level s))
+      → ((s : ℕ) → t ≤ s → s < until → ended ≡ leb (endFrom part at before) s)
+      → Moved part e t (record { at = at; before = before; level = level; now = now; ended = ended; until = until })
+  stopped ended until till n d =
       let end-is : endFrom part at before ≡ endFrom part (e .at) (e .before) = rw from at (p .end-is) ∙ end-next part (e .at) (e .before) in
       record {
-        at-is = refl;
-        now-is = n ∙ ap heldToUnity (level-later t (omega arith));
-        ended-is = d ∙ ap (λ (x : ℕ). leb x t) end-is;
         ready = record { inside = p .place .inside; whole = p .place .whole; passed = p .passed };
+        till = till;
+        now-is = λ s h g. n s h g ∙ ap heldToUnity (level-later s h);
+        ended-is = λ s h g. d s h g ∙ ap (λ (x : ℕ). leb x s) end-is;
         end-is = end-is;
         later = level-later;
       }
 
+  -- what is so of t alone
+  at-once : (P : ℕ → Type 0) → P t → (s : ℕ) → t ≤ s → s < t + 1 → P s
+  at-once P h s a b = let e : t ≡ s = omega arith in subst P e h
+
   -- on the way
   pub stopped-way : (point : EgPoint) (dest : ℤ) → at < length part → point ≡ pointOf (drop (at + 1) part) → dest ≡ point .dest
       → t - before < point .«duration_ms» → now ≡ heldToUnity (onTheWay level dest (t - before) (point .«duration_ms»))
-      → Moved part e t (record { at = at; before = before; level = level; ms = t; now = now; ended = false })
+      → Moved part e t (record { at = at; before = before; level = level; now = now; ended = false; until = t + 1 })
   stopped-way point dest here read d h n =
       let stands = p .place .stands here in
-      stopped false (n ∙ rw (d, level-way part at before point here stands read level t h)) (sym (lt-leb (endFrom part at before) t (omega (arith, end-way part at before point here stands read))))
+      stopped false (t + 1) (omega arith)
+      (at-once (λ s. now ≡ heldToUnity (levelFrom part at before level s)) (n ∙ rw (d, level-way part at before point here stands read level t h)))
+      (at-once (λ s. false ≡ leb (endFrom part at before) s) (sym (lt-leb (endFrom part at before) t (omega (arith, end-way part at before point here stands read)))))
 
-  -- past every point
-  pub stopped-rest : length part ≤ at → now ≡ heldToUnity level → Moved part e t (record { at = at; before = before; level = level; ms = t; now = now; ended = true })
-  stopped-rest past n =
+  -- past every point, for ever
+  pub stopped-rest : (until : ℕ) → t < until → length part ≤ at → now ≡ heldToUnity level → Moved part e t (record { at = at; before = before; level = level; now = now; ended = true; until = until })
+  stopped-rest until till past n =
       let k = p .passed in
-      stopped true (n ∙ rw (level-rest part at before past level t)) (sym (le-leb (endFrom part at before) t (omega (arith, end-rest part at before past))))
+      stopped true until till
+      (λ s h g. n ∙ rw (level-rest part at before past level s))
+      (λ s h g. sym (le-leb (endFrom part at before) s (omega (arith, end-rest part at before past))))
 
 -- ---- a cursor on an envelope
 
 -- where the cursor isn't moved
-pub stays : (part : List ℕ) (e : EnvelopeCursor) (t : ℕ) → Stood part e → e .ms ≡ t → Moved part e t e
-stays part e t s q =
-    record {
-      at-is = q;
-      now-is = rw q at (s .now-is);
-      ended-is = rw q at (s .ended-is);
-      ready = record { inside = s .ready .inside; whole = s .ready .whole; passed = rw q at (s .ready .passed) };
-      end-is = refl;
-      later = λ u h. refl;
-    }
+pub stays : (part : List ℕ) (e : EnvelopeCursor) (t : ℕ) → Stood part e t → t < e .until → Moved part e t e
+stays part e t s g = record { ready = s .ready; till = g; now-is = s .now-is; ended-is = s .ended-is; end-is = refl; later = λ u h. refl }
 
 -- the cursor at the front
-pub begun : (part : List ℕ) (start : ℤ) (t ms now : ℕ) (ended : Bool) (r : EnvelopeCursor)
-    → Moved part (record { at = 0; before = 0; level = start; ms = ms; now = now; ended = ended }) t r → Follows part start t r
-begun part start t ms now ended r m =
+pub begun : (part : List ℕ) (start : ℤ) (t now until : ℕ) (ended : Bool) (r : EnvelopeCursor)
+    → Moved part (record { at = 0; before = 0; level = start; now = now; ended = ended; until = until }) t r → Follows part start t r
+begun part start t now until ended r m =
     record {
-      at-is = m .at-is;
-      now-is = m .now-is ∙ ap heldToUnity (level-front part start t);
-      ended-is = m .ended-is ∙ ap (λ (x : ℕ). leb x t) (end-front part);
       ready = m .ready;
+      now-is = λ s h g. m .now-is s h g ∙ ap heldToUnity (level-front part start s);
+      ended-is = λ s h g. m .ended-is s h g ∙ ap (λ (x : ℕ). leb x s) (end-front part);
       end-is = m .end-is ∙ end-front part;
       later = λ s h. m .later s h ∙ level-front part start s;
     }
 
 module _ {part : List ℕ} {start : ℤ} {t : ℕ} {e : EnvelopeCursor} (f : Follows part start t e) where
-  pub stood : Stood part e
+  pub stood : Stood part e t
   stood =
-      let q = f .at-is in
       record {
-        now-is = rw q (f .now-is ∙ ap heldToUnity (sym (f .later t (omega arith))));
-        ended-is = rw q (f .ended-is ∙ ap (λ (x : ℕ). leb x t) (sym (f .end-is)));
-        ready = record { inside = f .ready .inside; whole = f .ready .whole; passed = rw q (f .ready .passed) };
+        ready = f .ready;
+        now-is = λ s h g. f .now-is s h g ∙ ap heldToUnity (sym (f .later s h));
+        ended-is = λ s h g. f .ended-is s h g ∙ ap (λ (x : ℕ). leb x s) (sym (f .end-is));
       }
 
-  pub follow : {s : ℕ} {r : EnvelopeCursor} → t ≤ s → Moved part e s r → Follows part start s r
-  follow {s} {r} h m =
+  pub follow : {r : EnvelopeCursor} → Moved part e t r → Follows part start t r
+  follow m =
       record {
-        at-is = m .at-is;
-        now-is = m .now-is ∙ ap heldToUnity (f .later s h);
-        ended-is = m .ended-is ∙ ap (λ (x : ℕ). leb x s) (f .end-is);
         ready = m .ready;
+        now-is = λ s h g. m .now-is s h g ∙ ap heldToUnity (f .later s h);
+        ended-is = λ s h g. m .ended-is s h g ∙ ap (λ (x : ℕ). leb x s) (f .end-is);
         end-is = m .end-is ∙ f .end-is;
-        later = λ u g. m .later u g ∙ f .later u (omega arith);
+        later = λ s h. m .later s h ∙ f .later s h;
+      }
+
+  -- as it follows from t on it does from any later time on
+  pub follow-on : {s : ℕ} → t ≤ s → Follows part start s e
+  follow-on h =
+      record {
+        ready = record { inside = f .ready .inside; whole = f .ready .whole; passed = omega (arith, f .ready .passed) };
+        now-is = λ u a g. f .now-is u (omega arith) g;
+        ended-is = λ u a g. f .ended-is u (omega arith) g;
+        end-is = f .end-is;
+        later = λ u a. f .later u (omega arith);
       }
 
 -- ---- its level
 
-held-small : (now : ℕ) (z : ℤ) → now ≡ heldToUnity z → now ≤ 65536
-held-small now z is = omega (arith, is, held-le z)
-
-pub level-small : {part : List ℕ} {start : ℤ} {t : ℕ} {e : EnvelopeCursor} → Follows part start t e → e .now ≤ 65536
-level-small {e = e} f = held-small (e .now) _ (f .now-is)
+pub level-small : {part : List ℕ} {start : ℤ} {t : ℕ} {e : EnvelopeCursor} → Follows part start t e → t < e .until → e .now ≤ 65536
+level-small {part} {start} {t} f g = omega (arith, f .now-is t (omega arith) g, held-le (levelAt (pointsIn part) start t))
 
 pub moved-small : {part : List ℕ} {e : EnvelopeCursor} {t : ℕ} {r : EnvelopeCursor} → Moved part e t r → r .now ≤ 65536
-moved-small {r = r} m = held-small (r .now) _ (m .now-is)
+moved-small {part} {e} {t} {r} m = omega (arith, m .now-is t (omega arith) (m .till), held-le (curve part e t))

@@ -1,6 +1,6 @@
 -- What the code carries along an envelope; no reader of the meanings needs it. A place in it stands for the points from it on, and the
 -- level and the time that they start from.
-use Prim.Native.Nat.{ℕ, _+_, _-_, _≤_}
+use Prim.Native.Nat.{ℕ, _+_, _-_, _≤_, _<_}
 use mathlib.Core.List.{List}
 use mathlib.Core.Path.{_≡_}
 use lib.Dec.{leb}
@@ -33,26 +33,25 @@ pub record Ready (part : List ℕ) (e : EnvelopeCursor) (t : ℕ) : Type 0 where
   pub whole : Whole 6 6 (drop (e .at) part)
   pub passed : e .before ≤ t
 
--- r is e moved to t: what it says of t, and that from t on it stands for the same levels
+-- from t on, and up to where the cursor says, what it says is so
+pub record Stood (part : List ℕ) (e : EnvelopeCursor) (t : ℕ) : Type 0 where
+  pub ready : Ready part e t
+  pub now-is : (s : ℕ) → t ≤ s → s < e .until → e .now ≡ heldToUnity (curve part e s)
+  pub ended-is : (s : ℕ) → t ≤ s → s < e .until → e .ended ≡ leb (cursorEnd part e) s
+
+-- r is e moved to t: what it says of t and of the times up to where it says, and that from t on it stands for the same levels
 pub record Moved (part : List ℕ) (e : EnvelopeCursor) (t : ℕ) (r : EnvelopeCursor) : Type 0 where
-  pub at-is : r .ms ≡ t
-  pub now-is : r .now ≡ heldToUnity (curve part e t)
-  pub ended-is : r .ended ≡ leb (cursorEnd part e) t
   pub ready : Ready part r t
+  pub till : t < r .until
+  pub now-is : (s : ℕ) → t ≤ s → s < r .until → r .now ≡ heldToUnity (curve part e s)
+  pub ended-is : (s : ℕ) → t ≤ s → s < r .until → r .ended ≡ leb (cursorEnd part e) s
   pub end-is : cursorEnd part r ≡ cursorEnd part e
   pub later : (s : ℕ) → t ≤ s → curve part r s ≡ curve part e s
 
--- what a cursor says of its own time is so
-pub record Stood (part : List ℕ) (e : EnvelopeCursor) : Type 0 where
-  pub now-is : e .now ≡ heldToUnity (curve part e (e .ms))
-  pub ended-is : e .ended ≡ leb (cursorEnd part e) (e .ms)
-  pub ready : Ready part e (e .ms)
-
--- e stands at t on the envelope of a part, begun at `start`, and follows it from there on
+-- e has been led to t on the envelope of a part, begun at `start`, and follows it from there on
 pub record Follows (part : List ℕ) (start : ℤ) (t : ℕ) (e : EnvelopeCursor) : Type 0 where
-  pub at-is : e .ms ≡ t
-  pub now-is : e .now ≡ heldToUnity (levelAt (pointsIn part) start t)
-  pub ended-is : e .ended ≡ leb (totalDuration (pointsIn part)) t
   pub ready : Ready part e t
+  pub now-is : (s : ℕ) → t ≤ s → s < e .until → e .now ≡ heldToUnity (levelAt (pointsIn part) start s)
+  pub ended-is : (s : ℕ) → t ≤ s → s < e .until → e .ended ≡ leb (totalDuration (pointsIn part)) s
   pub end-is : cursorEnd part e ≡ totalDuration (pointsIn part)
   pub later : (s : ℕ) → t ≤ s → curve part e s ≡ levelAt (pointsIn part) start s

@@ -58,6 +58,10 @@ module _ (g : Gains) (left right : List ℤ) (q : ℕ) where
   unfolding frameWith
   no-level i = refl
 
+  pub not-over : (i level : ℕ) → frameWith g left right q (some i) (some level) .sounds ≡ true
+  unfolding frameWith
+  not-over i level = refl
+
   -- a frame that sounds: `second` has the samples that the right side plays
   pub sounding : (i level : ℕ) (second : List ℤ) → cond (g .stereo) right left ≡ second → (a b : ℤ)
       → a ≡ valueWith g level q (getD left i (pos 0)) (g .«left_share»)

@@ -2,10 +2,10 @@
 --     frames-shift, frames-same, frames-silent                  frames that are the same, or all silent
 --     frames-none, frames-length, frames-join, frames-next      how many there are, and those that follow others
 --     interleaved-length, -half, -join, -silent, -none, -next   their values, two for each
---     sounding-join, -silent, -within, -none, -next             how many of them aren't over
+--     sounding-join, -silent, -all, -none                       how many of them aren't over
 -- Assumes nothing.
 use Prim.Native.Nat.{ℕ, zero, suc, _+_, _*_, _/_, _≤_, _<_}
-use mathlib.Core.Bool.{Bool, true, false, cond}
+use mathlib.Core.Bool.{true}
 use mathlib.Core.List.{List, [], _∷_, _++_}
 use mathlib.Core.Path.{_≡_, refl, sym, ap}
 use native.Mathlib.Nat.{add-zero, zero-add}
@@ -95,14 +95,10 @@ unfolding sounding
 sounding-silent zero = refl
 sounding-silent (suc d) = rw (sounding-silent d)
 
-pub sounding-within : (fs : List Frame) → sounding fs ≤ length fs
-unfolding sounding
-sounding-within [] = omega arith
-sounding-within (f ∷ fs) = omega (arith, one-or-none (f .sounds), sounding-within fs)
-  where
-    one-or-none : (b : Bool) → cond b 1 0 ≤ 1
-    one-or-none true = omega arith
-    one-or-none false = omega arith
+pub sounding-all : (f : ℕ → Frame) (m d : ℕ) → ((j : ℕ) → m ≤ j → j < m + d → f j .sounds ≡ true) → sounding (framesFrom f m d) ≡ d
+unfolding framesFrom sounding
+sounding-all f m zero e = refl
+sounding-all f m (suc d) e = rw (e m (omega arith) (omega arith), sounding-all f (suc m) d (λ j a b. e j (omega arith) (omega arith))) (omega arith)
 
 -- ---- a block that grows
 
@@ -118,7 +114,3 @@ module _ (f : ℕ → Frame) (m : ℕ) where
   pub sounding-none : sounding (framesFrom f m 0) ≡ 0
   unfolding framesFrom sounding
   sounding-none = refl
-
-  pub sounding-next : (d : ℕ) → sounding (framesFrom f m (d + 1)) ≡ sounding (framesFrom f m d) + cond (f (m + d) .sounds) 1 0
-  unfolding sounding
-  sounding-next d = rw (frames-next f m d, sounding-join (framesFrom f m d) (f (m + d) ∷ [])) (omega arith)

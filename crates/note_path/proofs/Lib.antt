@@ -3,5 +3,6 @@ pub mod SegmentLaws
 pub mod AheadLaws
 pub mod LengthLaws
 pub mod OctavePathLaws
+pub mod EndLaws
 pub mod RunLaws
 pub mod TurnLaws

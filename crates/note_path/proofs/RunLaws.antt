@@ -1,18 +1,14 @@
 -- What a run says of the path, and the run before the first step.
 --     place-sequence, place-loop              the path in numbers is that of the sequence, or that of the loop
 --     run-front                               the run before the first step is good
---     reached-here, place-is                  where step q lies by a run that has been led to it
---     reached-good, reached-later             such a run is good still, and has begun by any later step
+--     reached-good, reached-later             a run that has been led to step q is good, and has begun by any later step
 -- Assumes nothing.
-use Prim.Native.Nat.{ℕ, _+_, _-_, _≤_, _<_}
-use mathlib.Core.Bool.{Bool, true, false, cond}
+use Prim.Native.Nat.{ℕ, _≤_}
+use mathlib.Core.Bool.{true, false}
 use mathlib.Core.List.{List}
-use mathlib.Core.Option.{none, some}
-use mathlib.Core.Path.{_≡_, refl}
+use mathlib.Core.Path.{_≡_}
 use native.Mathlib.Nat.{sub-zero}
 use native.Mathlib.Omega.{arith}
-use borrow.Author.Tests.{ltb-true, ltb-false}
-use lib.Dec.{ltb}
 use Rattle.sheet_layout.specs.Members.{segmentsIn}
 use Rattle.note_path.specs.Path.{segmentsPath, loopPath}
 use Rattle.note_path.specs.Run.{placeOf, Sane, Good, Reached}
@@ -46,13 +42,3 @@ module _ {p : Path} {part : List ℕ} {q : ℕ} {r : Run} (h : Reached p part q 
 
   pub reached-later : (later : ℕ) → q ≤ later → r .from ≤ later
   reached-later later g = omega (arith, h .begun)
-
-  pub reached-here : q < r .until → placeOf p part q ≡ some (r .start + (q - r .from))
-  reached-here g = h .good .here q (h .begun) g
-
-  pub place-is : placeOf p part q ≡ cond (ltb q (r .until)) (some (r .start + (q - r .from))) none
-  place-is = go (ltb q (r .until)) refl
-    where
-      go : (f : Bool) → ltb q (r .until) ≡ f → placeOf p part q ≡ cond f (some (r .start + (q - r .from))) none
-      go true e = reached-here (ltb-true q (r .until) e)
-      go false e = h .past (ltb-false q (r .until) e)

@@ -1,157 +1,170 @@
--- A block that is being written: the frames so far, and the cursors that are carried from frame to frame.
---     Filled: filled-none, -more, -all          so many frames are written and counted
---     room-more, count-small, byte-small        there is room for one more, and the count is no larger than they are many
---     Cursors: cursors-start, -more             where the cursors stand before a frame
---     level-here, suits, step-small             the level at a frame, what a frame asks, and that its place fits
+-- A block that is being written: the frames so far, and what is carried from run to run.
+--     SoFar, so-far-none, -more             the frames up to the playhead are stored and sound, and the cursors follow
+--     so-far-all, so-far-over               the block's end, and the first frame that is over
+--     suits, begins, ready                  what the frames of a run ask
 -- Assumes nothing.
-use Prim.Native.Nat.{ℕ, _+_, _-_, _*_, _/_, _≤_, _<_, _^_}
-use mathlib.Core.Bool.{Bool, true, false, cond}
-use mathlib.Core.List.{List, [], _∷_, _++_}
-use mathlib.Core.Path.{_≡_, refl, sym, ap, subst, _∙_}
-use native.Mathlib.Nat.{add-zero, add-mul, one-mul, mul-le-mul}
-use native.Mathlib.Numerals.{add-one}
+use Prim.Native.Nat.{ℕ, _+_, _-_, _*_, _/_, _≤_, _<_}
+use mathlib.Core.Bool.{Bool, true, false, true≢false, cond, _&&_}
+use mathlib.Core.List.{List, _++_}
+use mathlib.Core.Path.{_≡_, refl, sym, ap, _∙_}
 use native.Mathlib.Omega.{arith}
-use lib.Ieee.Nearest.{div-mono}
+use borrow.Author.Tests.{lt-ltb, ltb-true}
+use lib.Dec.{ltb}
 use lib.IntN.{ℤ}
-use lib.ListN.{length, drop, set, length-set, length-append, length-drop}
-use lib.Seq.{sets, sets-eq, take-at, drop-append-add, drop-drop}
-use mir.Val.{boolByte}
+use lib.ListN.{length}
+use lib.Seq.{length-sets}
+use Rattle.laws.specs.Put.{Put}
+use Rattle.laws.proofs.PutLaws.{put-none, put-then, put-same, put-front}
 use Rattle.note_envelope.specs.Cursor.{Moved, Follows}
 use Rattle.note_envelope.specs.declared.EnvelopeCursor.{EnvelopeCursor}
-use Rattle.note_envelope.proofs.CursorLaws.{follow, moved-small}
+use Rattle.note_envelope.proofs.CursorLaws.{follow, follow-on, moved-small}
 use Rattle.note_path.specs.Run.{Good, Reached}
 use Rattle.note_path.specs.declared.run.Path.{Path}
 use Rattle.note_path.specs.declared.run.Run.{Run}
-use Rattle.note_path.proofs.RunLaws.{reached-good, reached-later, reached-here}
+use Rattle.note_path.proofs.RunLaws.{reached-good, reached-later}
+use Rattle.note_frame.specs.Frame.{silent, stepOf, msSince}
+use Rattle.note_frame.specs.Frames.{framesFrom, interleaved, sounding}
 use Rattle.note_frame.specs.declared.chain.Frame.{Frame}
 use Rattle.note_frame.specs.declared.chain.Gains.{Gains}
-use Rattle.note_frame.specs.Frame.{stepOf, msSince}
-use Rattle.note_frame.specs.Frames.{framesFrom, interleaved, sounding}
-use Rattle.note_stage.specs.Block.{Suits, Playable, Played}
+use Rattle.note_frame.proofs.ChainLaws.{not-over}
+use Rattle.note_frame.proofs.FramesLaws.{frames-same, frames-length, frames-join, interleaved-length, interleaved-none, interleaved-join, sounding-none, sounding-join, sounding-all}
+use Rattle.note_stage.specs.Block.{stageFrame, Stands, runFrame, Suits, isOver, StretchReady, Stretched, Playable, Played}
 use Rattle.note_stage.specs.declared.Stage.{Stage}
-use Rattle.note_frame.proofs.FramesLaws.{frames-length, interleaved-length, interleaved-none, interleaved-next, sounding-within, sounding-none, sounding-next}
+use Rattle.note_stage.specs.declared.playhead.Playhead.{Playhead}
+use Rattle.note_stage.proofs.PlayheadLaws.{step-here, ms-here, step-later, ms-later}
+use Rattle.note_stage.proofs.StretchLaws.{goes-if}
+use Rattle.note_stage.proofs.BlockLaws.{frame-here, rest-over}
 
--- ---- the frames so far
+module _ (g : Gains) (path : Path) (s : Stage) (points segments : List ℕ) (left right : List ℤ) (m d : ℕ) (before : List ℤ) where
+  -- the stage's frames
+  abbrev f : ℕ → Frame
+  f = stageFrame g path s points segments left right
 
--- xs stored past the k elements that are written: they are written too
-prefix-sets : {A : Type 0} (p before xs : List A) (k : ℕ) → length p ≡ k → k + length xs ≤ length before → sets (p ++ drop k before) k xs ≡ p ++ xs ++ drop (k + length xs) before
-prefix-sets p before xs k e h =
-    let room : k + length xs ≤ length (p ++ drop k before) = rw (length-append, length-drop) (omega arith) in
-    let Past : ℕ → Type 0 = λ n. drop (n + length xs) (p ++ drop k before) ≡ drop (length xs) (drop k before) in
-    let past : Past k = subst Past e (drop-append-add p (drop k before) (length xs)) in
-    sets-eq xs (p ++ drop k before) k room ∙ rw (take-at p (drop k before) k e, past, drop-drop (length xs) k before)
+  -- the frames up to h are stored, and none of them is over; the cursors follow from there on
+  pub record SoFar (out : List ℤ) (h : Playhead) (e : EnvelopeCursor) (r : Run) : Type 0 where
+    pub begun : m ≤ h .frame
+    pub within : h .frame ≤ m + d
+    pub stands : Stands s h
+    pub stored : Put before 0 (interleaved (framesFrom f m (h .frame - m))) out (2 * (h .frame - m))
+    pub sounds : h .frame - m ≡ sounding (framesFrom f m (h .frame - m))
+    pub level : Follows points (s .level) (msSince (s .rate) (s .since) (h .frame)) e
+    pub run : Good path segments r
+    pub run-then : r .from ≤ stepOf (s .step) (h .frame)
 
--- a bool as a number
-byte-is : (b : Bool) → boolByte b ≡ cond b 1 0
-byte-is true = refl
-byte-is false = refl
-
-pub byte-small : (b : Bool) → boolByte b ≤ 1
-byte-small true = omega arith
-byte-small false = omega arith
-
--- i frames of a block are written and counted
-pub record Filled (f : ℕ → Frame) (m d : ℕ) (before : List ℤ) (i : ℕ) (out : List ℤ) (count : ℕ) : Type 0 where
-  pub within : i ≤ d
-  pub length-is : length out ≡ length before
-  pub out-is : out ≡ interleaved (framesFrom f m i) ++ drop (2 * i) before
-  pub count-is : count ≡ sounding (framesFrom f m i)
-
-pub filled-none : (f : ℕ → Frame) (m d : ℕ) (before : List ℤ) → Filled f m d before 0 before 0
-filled-none f m d before =
-    record {
-      within = omega arith;
-      length-is = refl;
-      out-is = rw (interleaved-none f m);
-      count-is = sym (sounding-none f m);
-    }
-
-module _ {f : ℕ → Frame} {m d : ℕ} {before : List ℤ} {i : ℕ} {out : List ℤ} {count : ℕ} (s : Filled f m d before i out count) where
-  -- the frame x is stored and counted
-  pub filled-more : (x : Frame) (l r : ℤ) (after : List ℤ) → i < d → 2 * d ≤ length before → x ≡ f (m + i) → l ≡ x .left → r ≡ x .right → after ≡ set (set out (2 * i) l) (2 * i + 1) r
-      → Filled f m d before (i + 1) after (count + boolByte (x .sounds))
-  filled-more x l r after h room e xl xr q =
-      let el : l ≡ f (m + i) .left = xl ∙ ap (λ (y : Frame). y .left) e in
-      let er : r ≡ f (m + i) .right = xr ∙ ap (λ (y : Frame). y .right) e in
-      let size : length (interleaved (framesFrom f m i)) ≡ 2 * i = interleaved-length (framesFrom f m i) ∙ ap (λ (n : ℕ). 2 * n) (frames-length f m i) in
-      let next : 2 * i + 2 ≡ 2 * (i + 1) = omega arith in
-      let stored = prefix-sets (interleaved (framesFrom f m i)) before (l ∷ r ∷ []) (2 * i) size (omega arith) in
+  pub so-far-none : (h : Playhead) (e : EnvelopeCursor) (r : Run) → Stands s h → h .frame ≡ m → Follows points (s .level) (h .clock .ms) e → Good path segments r → r .from ≤ 0
+      → SoFar before h e r
+  so-far-none h e r stands at follows good first =
+      let none : h .frame - m ≡ 0 = omega arith in
       record {
+        begun = omega arith;
         within = omega arith;
-        length-is = rw q (simp length-set (s .length-is));
-        out-is = rw (q, s .out-is, add-one (2 * i)) (stored ∙ rw (next, interleaved-next f m i, el, er));
-        count-is = rw (s .count-is, sounding-next f m i, byte-is, e);
+        stands = stands;
+        stored = rw (none, interleaved-none f m) (put-none before 0);
+        sounds = rw none (sym (sounding-none f m));
+        level = rw (ms-here stands) at follows;
+        run = good;
+        run-then = omega arith;
       }
 
-  -- there is room for one more
-  pub room-more : i < d → 2 * d ≤ length before → 2 * i + 1 < length out
-  room-more h room = omega (arith, s .length-is)
+  module _ (asked : Playable g path s points segments left right m d before) {out : List ℤ} {h : Playhead} {e : EnvelopeCursor} {r : Run} (k : SoFar out h e r) where
+    pub so-far-length : length out ≡ length before
+    so-far-length = rw (k .stored .is) (length-sets before 0 (interleaved (framesFrom f m (h .frame - m))))
 
-  pub count-small : count ≤ i
-  count-small = omega (arith, s .count-is, sounding-within (framesFrom f m i), frames-length f m i)
+    size : length (interleaved (framesFrom f m (h .frame - m))) ≡ 2 * (h .frame - m)
+    size = interleaved-length (framesFrom f m (h .frame - m)) ∙ ap (λ (n : ℕ). 2 * n) (frames-length f m (h .frame - m))
 
-  pub filled-all : d ≤ i → Played f m d before out count
-  filled-all h =
-      let e : i ≡ d = omega (arith, s .within) in
-      let all : Played f m i before out count = record { out-is = s .out-is; count-is = s .count-is } in
-      rw e at all
+    -- where the frames after them are over
+    ended : ((p : ℕ) → h .frame ≤ p → p < m + d → f p ≡ silent) → Played f m d before out (h .frame - m)
+    ended over =
+        record {
+          within = omega (arith, k .begun, k .within);
+          out-is = put-front (omega (arith, size, asked .room, k .within)) (k .stored) ∙ rw size;
+          count-is = k .sounds;
+          rest-over = λ p a b. over p (omega (arith, k .begun)) b;
+        }
 
--- ---- the cursors
+    pub so-far-all : m + d ≤ h .frame → Played f m d before out d
+    so-far-all h′ =
+        let all : h .frame - m ≡ d = omega (arith, k .within) in
+        rw all at (ended (λ p a b. absurd (omega arith)))
 
--- before frame p: t is 1,000 times its frames in the stage, and place is its place on the path, in 65,536ths of a step
-pub record Cursors (path : Path) (s : Stage) (points segments : List ℕ) (p t : ℕ) (e : EnvelopeCursor) (r : Run) (place : ℕ) : Type 0 where
-  pub time-is : t ≡ 1000 * (p - s .since)
-  pub level : Follows points (s .level) (e .ms) e
-  pub level-then : e .ms ≤ msSince (s .rate) (s .since) p
-  pub run : Good path segments r
-  pub run-then : r .from ≤ stepOf (s .step) p
-  pub place-is : place ≡ p * s .step
+    -- cursors led to the frame
+    module _ (e′ : EnvelopeCursor) (r′ : Run) (moved : Moved points e (h .clock .ms) e′) (reached : Reached path segments (h .place / 65536) r′) where
+      follows : Follows points (s .level) (msSince (s .rate) (s .since) (h .frame)) e′
+      follows = follow (k .level) (rw (ms-here (k .stands)) at moved)
 
-pub cursors-start : (path : Path) (s : Stage) (points segments : List ℕ) (m : ℕ) (e : EnvelopeCursor) (r : Run)
-    → Follows points (s .level) (msSince (s .rate) (s .since) m) e → Good path segments r → r .from ≤ 0
-    → Cursors path s points segments (m + 0) (1000 * (m - s .since)) e r (m * s .step)
-cursors-start path s points segments m e r f g z =
-    rw (add-zero m)
-    (record {
-      time-is = refl;
-      level = rw (sym (f .at-is)) at f;
-      level-then = rw (f .at-is) (omega arith);
-      run = g;
-      run-then = omega arith;
-      place-is = refl;
-    })
+      here : Reached path segments (stepOf (s .step) (h .frame)) r′
+      here = rw (step-here (k .stands)) at reached
 
-module _ {path : Path} {s : Stage} {points segments : List ℕ} {p t : ℕ} {e : EnvelopeCursor} {r : Run} {place : ℕ} (u : Cursors path s points segments p t e r place) where
-  -- the envelope's cursor, moved to the frame's time
-  pub level-here : (e′ : EnvelopeCursor) → Moved points e (t / s .rate) e′ → Follows points (s .level) (msSince (s .rate) (s .since) p) e′
-  level-here e′ v = follow (u .level) (u .level-then) (rw (u .time-is) at v)
+      -- the cursors say what is so of it
+      told : msSince (s .rate) (s .since) (h .frame) < e′ .until
+      told = rw (ms-here (k .stands)) at (moved .till)
 
-  pub cursors-more : (e′ : EnvelopeCursor) (r′ : Run) → 0 < s .rate → s .since ≤ p → Moved points e (t / s .rate) e′
-      → Reached path segments (place / 65536) r′ → Cursors path s points segments (p + 1) (t + 1000) e′ r′ (place + s .step)
-  cursors-more e′ r′ z h v w =
-      let f = level-here e′ v in
-      let more : (p + 1) * s .step ≡ p * s .step + s .step = add-mul p 1 (s .step) ∙ ap (λ (x : ℕ). p * s .step + x) (one-mul (s .step)) in
-      record {
-        time-is = omega (arith, u .time-is);
-        level = rw (sym (f .at-is)) at f;
-        level-then = rw (f .at-is) (div-mono (1000 * (p - s .since)) (s .rate) (1000 * (p + 1 - s .since)) (s .rate) z z (mul-le-mul (omega arith) (omega arith)));
-        run = reached-good w;
-        run-then = reached-later w (stepOf (s .step) (p + 1)) (omega (arith, u .place-is, more));
-        place-is = rw (u .place-is, more);
-      }
+      pub so-far-over : isOver (s .ends) e′ r′ (h .place / 65536) ≡ true → Played f m d before out (h .frame - m)
+      so-far-over over =
+          let over-here = rw (step-here (k .stands)) at over in
+          ended (λ p a b. rest-over g path s points segments left right (asked .timed) (h .frame) e′ r′ follows here told over-here p a)
 
-module _ {g : Gains} {path : Path} {s : Stage} {points segments : List ℕ} {left right : List ℤ} {m d : ℕ} {out : List ℤ} (k : Playable g path s points segments left right m d out) where
-  pub suits : (e e′ : EnvelopeCursor) (t q : ℕ) (r : Run) → Moved points e t e′ → Reached path segments q r → Suits g e′ r q left right
-  suits e e′ t q r v h =
-      record {
-        bounded = k .bounded;
-        level-small = moved-small v;
-        begun = reached-later h q (omega arith);
-        in-left = rw (k .samples-are) at (reached-good h .within);
-        in-right = k .sides-are;
-        on-path = λ f l. k .fade-ends f q _ (reached-here h l);
-      }
+      module _ (goes : isOver (s .ends) e′ r′ (h .place / 65536) ≡ false) where
+        in-run : h .place / 65536 < r′ .until
+        in-run = go (ltb (h .place / 65536) (r′ .until)) refl goes
+          where
+            go : (t : Bool) → ltb (h .place / 65536) (r′ .until) ≡ t → cond t (s .ends && e′ .ended) true ≡ false → h .place / 65536 < r′ .until
+            go true t x = ltb-true (h .place / 65536) (r′ .until) t
+            go false t x = absurd (true≢false x)
 
-  -- the place of a frame fits
-  pub step-small : (p : ℕ) → p < 2 ^ 32 → p * s .step ≤ 2 ^ 56
-  step-small p h = omega (arith, mul-le-mul {n₁ = p} {n₂ = 2 ^ 32} (omega arith) (k .step-fits))
+        pub suits : Suits g r′ (e′ .now) left right
+        suits =
+            let good = reached-good reached in
+            record {
+              bounded = asked .bounded;
+              level-small = moved-small moved;
+              in-left = rw (asked .samples-are) at (good .within);
+              in-right = asked .sides-are;
+              on-path = λ fades q a b. asked .fade-ends fades q _ (good .here q a b);
+            }
+
+        pub begins : r′ .from ≤ h .place / 65536
+        begins = reached-later reached (h .place / 65536) (omega arith)
+
+        pub ready : h .frame < m + d → StretchReady s (r′ .until) (e′ .until) m (m + d) h out
+        ready l =
+            record {
+              timed = asked .timed;
+              stands = k .stands;
+              goes = sym (goes-if (r′ .until) (e′ .until) (m + d) h l in-run) ∙ lt-ltb (h .clock .ms) (e′ .until) (moved .till);
+              since-then = asked .since-then;
+              first = k .begun;
+              in-time = asked .in-time;
+              room = omega (arith, asked .room, so-far-length);
+            }
+
+        -- the frames of a stretch are the stage's
+        made : (p : ℕ) → h .frame ≤ p → stepOf (s .step) p < r′ .until → msSince (s .rate) (s .since) p < e′ .until → f p ≡ runFrame g r′ (e′ .now) left right (stepOf (s .step) p)
+        made = frame-here g path s points segments left right (asked .timed) (h .frame) e′ r′ follows here (rw (step-here (k .stands)) at goes)
+
+        pub so-far-more : (out′ : List ℤ) (h′ : Playhead) → Stretched (λ p. runFrame g r′ (e′ .now) left right (stepOf (s .step) p)) s (r′ .until) (e′ .until) m (m + d) h out out′ h′
+            → SoFar out′ h′ e′ r′
+        so-far-more out′ h′ t =
+            let p = h .frame in
+            let n = h′ .frame - p in
+            let began = k .begun in
+            let further = t .further in
+            let total : h′ .frame - m ≡ (p - m) + n = omega arith in
+            let at : m + (p - m) ≡ p = omega arith in
+            let fs = framesFrom f m (p - m) in
+            let more : framesFrom f m (h′ .frame - m) ≡ fs ++ framesFrom f p n = rw total (frames-join f m (p - m) n ∙ rw at) in
+            let made-at : (j : ℕ) → p ≤ j → j < p + n → f j ≡ runFrame g r′ (e′ .now) left right (stepOf (s .step) j) =
+            λ j a b. made j a (t .in-steps j a (omega arith)) (t .in-level j a (omega arith)) in
+            let same = frames-same f (λ j. runFrame g r′ (e′ .now) left right (stepOf (s .step) j)) p n made-at in
+            let heard : sounding (framesFrom f p n) ≡ n = sounding-all f p n (λ j a b. ap (λ (x : Frame). x .sounds) (made-at j a b) ∙ not-over g left right _ _ _) in
+            record {
+              begun = omega arith;
+              within = t .within;
+              stands = t .stands;
+              stored = put-same (rw (more, same) (sym (interleaved-join fs _))) (put-then (k .stored) (t .stored));
+              sounds = rw (more, sounding-join fs (framesFrom f p n), heard, ← k .sounds) total;
+              level = follow-on follows (ms-later (asked .timed) p (h′ .frame) (omega arith));
+              run = reached-good reached;
+              run-then = reached-later here (stepOf (s .step) (h′ .frame)) (step-later (asked .timed) p (h′ .frame) (omega arith));
+            }

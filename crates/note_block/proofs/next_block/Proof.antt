@@ -1,4 +1,4 @@
--- `note_block::next_block` meets its contract: the frames up to 4,294,967,295 are played, and the rest is silence.
+-- `note_block::next_block` meets its contract: the frames that aren't over are played, and the rest is silence.
 -- Assumes nothing.
 use Prim.Native.Nat.{ℕ, _%_, _≤_, _<_, _^_}
 use mathlib.Core.Path.{_≡_}

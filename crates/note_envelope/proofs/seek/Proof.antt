@@ -49,12 +49,12 @@ level-fits : (l : tie.At-loop Inv-loop μ-loop) → SFits w32 (entry l .args .e 
 level-fits l = search needs
 
 next-member-requires : tie.Need-next-member-requires Inv-loop μ-loop
-next-member-requires c κs = c .before .before .pre .inside
+next-member-requires c κs = c .before .before .pre .0 .inside
 
 loop-holds : tie.Need-loop-holds Inv-loop μ-loop
 loop-holds c =
     let a = first-entry c in
-    passed-none (a .args .part .now) (a .args .e) (a .args .t) (c .next-member .result) (toZ w32 (ofZ w32 (a .args .e .level))) (a .pre) (c .next-member .ensures)
+    passed-none (a .args .part .now) (a .args .e) (a .args .t) (c .next-member .result) (toZ w32 (ofZ w32 (a .args .e .level))) (a .pre .0) (c .next-member .ensures)
 
 add-body : tie.Need-add-body Inv-loop μ-loop
 add-body c = omega arith
@@ -67,6 +67,9 @@ sub-into c = c .before .before .loop .inv .passed
 
 cast-duration : tie.Need-cast-duration Inv-loop μ-loop
 cast-duration c = search needs
+
+add-until : tie.Need-add-until Inv-loop μ-loop
+add-until c = let r = c .before .before in omega (arith, entry (r .before .before) .pre .1)
 
 cast-on-the-way : tie.Need-cast-on-the-way Inv-loop μ-loop
 cast-on-the-way c = search needs
@@ -120,7 +123,7 @@ returns-2 c =
     let a = entry l .args in
     let first = l .before .next-member in
     stopped-rest (a .part .now) (a .e) (a .t) (first .result) (l .loop .at) (l .loop .before) (toZ w32 (l .loop .level)) (c .held-to-unity2 .result)
-    (level-fits l) (first .ensures) (l .loop .inv) (c .before .loop-test .left) (c .held-to-unity2 .ensures)
+    (level-fits l) (first .ensures) (l .loop .inv) _ (omega (arith, entry l .pre .1)) (c .before .loop-test .left) (c .held-to-unity2 .ensures)
 
 pub seek-spec : {M : Type 1} → statement M
 seek-spec =
@@ -134,6 +137,7 @@ seek-spec =
     read-point-requires
     sub-into
     cast-duration
+    add-until
     cast-on-the-way
     on-the-way-requires
     held-to-unity-requires

@@ -1,167 +1,144 @@
--- Before each frame the frames so far are written and counted, and the cursors stand no later than the frame.
-use Prim.Native.Nat.{ℕ, _+_, _-_, _/_}
+-- `note_stage::play` meets its contract. Before each run the frames so far are stored, and the cursors follow from the playhead on.
+-- Assumes nothing.
+use Prim.Native.Nat.{_-_, _/_, _<_, _^_}
 use borrow.Author.Needs.{needs}
-use mathlib.Core.Path.{_≡_, refl, ap}
+use mathlib.Core.Bool.{false}
+use mathlib.Core.Path.{_≡_, sym, _∙_}
 use native.Mathlib.Omega.{arith}
 use mir.Facts.{toZ-ofZ}
 use mir.Syntax.{w32}
 use mir.Val.{SFits}
 use Rattle.note_envelope.proofs.CursorLaws.{stood}
-use Rattle.note_stage.specs.Block.{stageFrame}
-use Rattle.note_stage.proofs.BlockLaws.{frame-is}
-use Rattle.note_stage.proofs.PlayLaws.{Filled, Cursors, byte-small, filled-none, filled-more, filled-all, room-more, count-small, cursors-start, cursors-more, level-here, suits, step-small}
+use Rattle.note_stage.specs.Block.{isOver}
+use Rattle.note_stage.proofs.PlayheadLaws.{place-small, ms-small, step-here, ms-here}
+use Rattle.note_stage.proofs.PlayLaws.{SoFar, so-far-none, so-far-length, so-far-all, so-far-over, suits, begins, ready, so-far-more}
 use Rattle.note_stage.proofs.play.Statement.{statement}
 use Rattle.note_stage.proofs.play.Tie as tie
 
 abbrev Inv-loop : tie.InvT-loop
-Inv-loop g path stage points segments left right m d out₀ t₀ e₀ r₀ pos₀ count₀ i₀ out t e r pos count i =
-    Filled (stageFrame g path stage points segments left right) m d out₀ i out count × Cursors path stage points segments (m + i) t e r pos
+Inv-loop g path stage points segments left right m d out₀ end h₀ e₀ r₀ out h e r = SoFar g path stage points segments left right m d out₀ out h e r
 
 abbrev μ-loop : tie.MeasureT-loop
-μ-loop g path stage points segments left right m d out₀ t₀ e₀ r₀ pos₀ count₀ i₀ out t e r pos count i = d - i
+μ-loop g path stage points segments left right m d out₀ end h₀ e₀ r₀ out h e r = end - h .frame
 
--- the function's entry, from the places before the loop and from its head
-abbrev known-entry : tie.After-struct-known Inv-loop μ-loop → tie.Start Inv-loop μ-loop
-known-entry c = c .before .before .before
-
-abbrev told-entry : tie.After-struct-told Inv-loop μ-loop → tie.Start Inv-loop μ-loop
-told-entry c = known-entry (c .before .before)
-
-abbrev head-entry : tie.After-struct-known3 Inv-loop μ-loop → tie.Start Inv-loop μ-loop
-head-entry c = told-entry (c .before .before .before)
+-- the function's entry, from where the playhead is made and from the loop
+abbrev first-entry : tie.After-struct-told Inv-loop μ-loop → tie.Start Inv-loop μ-loop
+first-entry c = c .before .before .before .before
 
 abbrev entry : tie.At-loop Inv-loop μ-loop → tie.Start Inv-loop μ-loop
-entry l = head-entry (l .before)
+entry l = first-entry (l .before .before .before)
 
--- the turn of the loop, from where the frame's run is known and from where the frame is made
-abbrev turn : tie.After-run-to Inv-loop μ-loop → tie.In-loop Inv-loop μ-loop
-turn c = c .before .before .before
+-- the loop, from where a turn begins; that, from where the cursors are led to the frame; and this, from where the run is played and where the note is over
+abbrev head : tie.After-struct-known2 Inv-loop μ-loop → tie.At-loop Inv-loop μ-loop
+head c = c .before .before .before
 
-abbrev turn-head : tie.After-frame-here Inv-loop μ-loop → tie.At-loop Inv-loop μ-loop
-turn-head c = turn (c .before) .before
+abbrev led : tie.After-run-to Inv-loop μ-loop → tie.After-struct-known2 Inv-loop μ-loop
+led c = c .before .before
 
--- where the frame is made, from where it is stored and counted
-abbrev to-store : tie.After-struct-told3 Inv-loop μ-loop → tie.After-frame-here Inv-loop μ-loop
-to-store c = c .before .before .before
+abbrev played : tie.After-play-run-arg Inv-loop μ-loop → tie.After-run-to Inv-loop μ-loop
+played c = c .before .before .before
 
-abbrev to-count : tie.After-struct-known5 Inv-loop μ-loop → tie.After-frame-here Inv-loop μ-loop
-to-count c = to-store (c .before .before .before)
+abbrev over : tie.After-struct-known3 Inv-loop μ-loop → tie.After-run-to Inv-loop μ-loop
+over c = c .before .before .before
 
-sub-t : tie.Need-sub-t Inv-loop μ-loop
-sub-t c = let k = known-entry c .pre in omega (arith, k .since-then)
+-- the stage's level, as the machine reads it back
+level-fits : (s : tie.Start Inv-loop μ-loop) → SFits w32 (s .args .stage .level)
+level-fits s = search needs
 
-mul-t : tie.Need-mul-t Inv-loop μ-loop
-mul-t c = let k = known-entry c .pre in omega (arith, k .in-time)
+add-end : tie.Need-add-end Inv-loop μ-loop
+add-end c = let s = c .before .before in omega (arith, s .pre .in-time)
 
-div-cursor-at : tie.Need-div-cursor-at Inv-loop μ-loop
-div-cursor-at c = known-entry (c .before) .pre .rate-some
+playhead-at-requires : tie.Need-playhead-at-requires Inv-loop μ-loop
+playhead-at-requires c κs = let k = c .before .before .pre in (k .timed, k .since-then, omega (arith, k .in-time))
 
 cursor-at-requires : tie.Need-cursor-at-requires Inv-loop μ-loop
-cursor-at-requires c κs = told-entry c .pre .points-whole
+cursor-at-requires c κs =
+    let k = first-entry c .pre in
+    let stands = c .before .playhead-at .ensures in
+    (k .points-whole, ms-small (stands .0) (k .timed) (omega (arith, stands .1, k .in-time)))
 
 run-start-requires : tie.Need-run-start-requires Inv-loop μ-loop
-run-start-requires c κs = told-entry (c .before) .pre .sane
-
-mul-pos : tie.Need-mul-pos Inv-loop μ-loop
-mul-pos c =
-    let s = head-entry c in
-    omega (arith, step-small (s .pre) (s .args .m) (omega (arith, s .pre .in-time)))
+run-start-requires c κs = first-entry (c .before) .pre .sane
 
 loop-holds : tie.Need-loop-holds Inv-loop μ-loop
 loop-holds c =
-    let a = head-entry c .args in
-    let level-fits : SFits w32 (a .stage .level) = search needs in
-    let follows = rw (toZ-ofZ level-fits) at (c .before .before .cursor-at .ensures) in
-    let run = c .before .run-start .ensures in (
-      filled-none _ _ _ _,
-      cursors-start (a .path) (a .stage) (a .points .now) (a .segments .now) (a .m) _ _ follows (run .0) (run .1),
-    )
+    let cursor = c .before in
+    let a = first-entry (cursor .before) .args in
+    let follows = rw (toZ-ofZ (level-fits (first-entry (cursor .before)))) at (cursor .cursor-at .ensures .0) in
+    let head = cursor .before .before .playhead-at .ensures in
+    let run = c .run-start .ensures in
+    so-far-none (a .g) (a .path) (a .stage) (a .points .now) (a .segments .now) (a .left .now) (a .right .now) (a .m) (a .d) (a .out .now)
+    _ _ _ (head .0) (head .1) follows (run .0) (run .1)
 
-div-cursor-to : tie.Need-div-cursor-to Inv-loop μ-loop
-div-cursor-to c = entry (c .before .before) .pre .rate-some
+-- the playhead is before the block's end
+in-time : (c : tie.After-struct-known2 Inv-loop μ-loop) → head c .loop .h .frame < 2 ^ 32
+in-time c = let l = head c in omega (arith, entry l .pre .in-time, c .before .if1 .taken)
 
 cursor-to-requires : tie.Need-cursor-to-requires Inv-loop μ-loop
-cursor-to-requires c κs = let u = c .before .before .loop .inv .1 in (stood (u .level), rw (u .time-is) (u .level-then))
+cursor-to-requires c κs =
+    let l = head c in
+    let k = l .loop .inv in
+    (rw (ms-here (k .stands)) (stood (k .level)), ms-small (k .stands) (entry l .pre .timed) (in-time c))
 
 run-to-requires : tie.Need-run-to-requires Inv-loop μ-loop
 run-to-requires c κs =
-    let known = c .before in
-    let l = known .before .before in
-    let k = entry l .pre in
-    let u = l .loop .inv .1 in
-    let g = u .place-is in
-    let small = step-small k (entry l .args .m + l .loop .i) (omega (arith, k .in-time, l .loop .inv .0 .within)) in
-    (k .sane, u .run, rw g (u .run-then), omega (arith, small))
+    let l = head (c .before) in
+    let k = l .loop .inv in
+    let asked = entry l .pre in
+    let small = place-small (asked .timed) (l .loop .h .frame) (omega (arith, in-time (c .before))) in
+    (asked .sane, k .run, rw (step-here (k .stands)) (k .run-then), omega (arith, small, k .stands .place-is))
 
-frame-here-requires : tie.Need-frame-here-requires Inv-loop μ-loop
-frame-here-requires c κs =
-    suits (entry (turn c .before) .pre) _ _ _ _ _ (c .before .cursor-to .ensures) (c .run-to .ensures)
+is-over-requires : tie.Need-is-over-requires Inv-loop μ-loop
+is-over-requires c κs = search needs
 
-mul-put-frame : tie.Need-mul-put-frame Inv-loop μ-loop
-mul-put-frame c = let k = entry (turn-head (c .before)) .pre in omega (arith, k .in-time)
+sub-result : tie.Need-sub-result Inv-loop μ-loop
+sub-result c = head (led (over c)) .loop .inv .begun
 
-put-frame-requires : tie.Need-put-frame-requires Inv-loop μ-loop
-put-frame-requires c κs =
-    let t = turn (to-store c .before) in
-    room-more (t .before .loop .inv .0) (t .loop-test .taken) (entry (t .before) .pre .room)
+same-length : tie.Need-same-length Inv-loop μ-loop
+same-length c = let l = head (led (over c)) in so-far-length _ _ _ _ _ _ _ _ _ _ (entry l .pre) (l .loop .inv)
 
-cast-count : tie.Need-cast-count Inv-loop μ-loop
-cast-count c = search needs
+returns : tie.Need-returns Inv-loop μ-loop
+returns c =
+    let t = over c in
+    let l = head (led t) in
+    so-far-over _ _ _ _ _ _ _ _ _ _ (entry l .pre) (l .loop .inv) _ _ (t .before .cursor-to .ensures) (t .run-to .ensures)
+    (sym (c .before .before .is-over .ensures) ∙ c .before .if2 .taken)
 
-add-count : tie.Need-add-count Inv-loop μ-loop
-add-count c =
-    let f = to-count c in
-    let l = turn-head f in
-    omega (arith, entry l .pre .in-time, count-small (l .loop .inv .0), l .loop .inv .0 .within, byte-small (f .frame-here .result .sounds))
+-- the frame isn't over
+goes : (c : tie.After-play-run-arg Inv-loop μ-loop) →
+    let t = played c in
+    let l = head (led t) in
+    isOver (entry l .args .stage .ends) (t .before .cursor-to .result) (t .run-to .result) (l .loop .h .place / 65536) ≡ false
+goes c = sym (c .before .before .is-over .ensures) ∙ c .before .if2 .left
 
-add-t : tie.Need-add-t Inv-loop μ-loop
-add-t c =
-    let l = turn-head (to-count c) in
-    omega (arith, entry l .pre .in-time, l .loop .inv .0 .within, l .loop .inv .1 .time-is)
-
-add-pos : tie.Need-add-pos Inv-loop μ-loop
-add-pos c =
-    let l = turn-head (to-count (c .before)) in
-    let k = entry l .pre in
-    let small = step-small k (entry l .args .m + l .loop .i) (omega (arith, k .in-time, l .loop .inv .0 .within)) in
-    omega (arith, small, k .step-fits, l .loop .inv .1 .place-is)
-
-add-i : tie.Need-add-i Inv-loop μ-loop
-add-i c =
-    let l = turn-head (to-count (c .before)) in
-    omega (arith, entry l .pre .in-time, l .loop .inv .0 .within)
+play-run-requires : tie.Need-play-run-requires Inv-loop μ-loop
+play-run-requires c κs =
+    let t = played c in
+    let l = head (led t) in
+    let asked = entry l .pre in
+    let k = l .loop .inv in
+    let moved = t .before .cursor-to .ensures in
+    let reached = t .run-to .ensures in (
+      suits _ _ _ _ _ _ _ _ _ _ asked k _ _ moved reached (goes c),
+      begins _ _ _ _ _ _ _ _ _ _ asked k _ _ moved reached (goes c),
+      ready _ _ _ _ _ _ _ _ _ _ asked k _ _ moved reached (goes c) (led t .before .if1 .taken),
+    )
 
 loop-less : tie.Need-loop-less Inv-loop μ-loop
-loop-less c = omega arith
-
-next : (m i : ℕ) → m + (i + 1) ≡ m + i + 1
-next m i = omega arith
+loop-less c = let t = c .before .play-run .ensures in omega (arith, t .further, t .within)
 
 loop-again : tie.Need-loop-again Inv-loop μ-loop
 loop-again c =
-    let counted = c .before in
-    let made = to-count counted in
-    let l = turn-head made in
-    let a = entry l .args in
-    let k = entry l .pre in
-    let u = l .loop .inv .1 in
-    let f = made .frame-here in
-    let run = made .before .run-to .ensures in
-    let level = made .before .before .cursor-to .ensures in
-    let step = ap (λ (x : ℕ). x / 65536) (u .place-is) in
-    let is =
-    frame-is (a .g) (a .path) (a .stage) (a .points .now) (a .segments .now) (a .left .now) (a .right .now) (a .m + l .loop .i)
-    _ _ _ _ (f .result) (f .ensures) step refl run (level-here u _ level) in (
-      filled-more (l .loop .inv .0) (f .result) _ _ _ (turn (made .before) .loop-test .taken) (k .room) is
-          (toZ-ofZ (search (needs, f .ok))) (toZ-ofZ (search (needs, f .ok))) (counted .before .before .put-frame .ensures),
-      rw (next (a .m) (l .loop .i)) (cursors-more u _ _ (k .rate-some) (omega (arith, k .since-then)) level run),
-    )
+    let arg = c .before .before in
+    let t = played arg in
+    let l = head (led t) in
+    so-far-more _ _ _ _ _ _ _ _ _ _ (entry l .pre) (l .loop .inv) _ _ (t .before .cursor-to .ensures) (t .run-to .ensures) (goes arg) _ _ (c .before .play-run .ensures)
 
-same-length : tie.Need-same-length Inv-loop μ-loop
-same-length c = c .before .loop .inv .0 .length-is
+same-length-2 : tie.Need-same-length-2 Inv-loop μ-loop
+same-length-2 c = let l = c .before .before in so-far-length _ _ _ _ _ _ _ _ _ _ (entry l .pre) (l .loop .inv)
 
-returns : tie.Need-returns Inv-loop μ-loop
-returns c = filled-all (c .before .loop .inv .0) (c .loop-test .left)
+returns-2 : tie.Need-returns-2 Inv-loop μ-loop
+returns-2 c = let l = c .before .before in so-far-all _ _ _ _ _ _ _ _ _ _ (entry l .pre) (l .loop .inv) (c .if1 .left)
 
 pub play-spec : {M : Type 1} → statement M
 play-spec =
@@ -169,25 +146,19 @@ play-spec =
     (tie.spec
     Inv-loop
     μ-loop
-    sub-t
-    mul-t
-    div-cursor-at
+    add-end
+    playhead-at-requires
     cursor-at-requires
     run-start-requires
-    mul-pos
     loop-holds
-    div-cursor-to
     cursor-to-requires
     run-to-requires
-    frame-here-requires
-    mul-put-frame
-    put-frame-requires
-    cast-count
-    add-count
-    add-t
-    add-pos
-    add-i
+    is-over-requires
+    sub-result
+    same-length
+    returns
+    play-run-requires
     loop-less
     loop-again
-    same-length
-    returns)
+    same-length-2
+    returns-2)

@@ -1,0 +1,2 @@
+-- Laws of a clock that is carried from frame to frame.
+pub mod ClockLaws

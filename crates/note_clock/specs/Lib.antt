@@ -1,0 +1,2 @@
+-- What a clock shows, and what a frame does to it.
+pub mod Clock
