@@ -4,7 +4,7 @@
 //!     compare encode N [SEED]    voices: refusal or file
 //!     compare parts N [SEED]     codecs, octaves, loops, levels, floats
 //!     compare note N [SEED]      notes: fills and key-ups against a plain note, written from the specification (plain_note.rs)
-//!     compare note-long N [SEED] the same in blocks of up to 20,000 frames
+//!     compare note-long N [SEED] the same in blocks of fewer than 20,000 frames
 //!     compare wave N [SEED]      octaves as WAVE files against a plain version (plain_wave.rs), and taken apart again
 //!     compare list               the fixed list that the gate replays, on standard output (see list.rs)
 //!     compare bench              speed against the original and, for notes and WAVE files, against the plain versions

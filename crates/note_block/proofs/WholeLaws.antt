@@ -15,7 +15,7 @@ use Rattle.note_frame.specs.Frame.{silent}
 use Rattle.note_frame.specs.Frames.{framesFrom, interleaved, sounding}
 use Rattle.note_frame.specs.declared.chain.Frame.{Frame}
 use Rattle.note_stage.specs.Block.{Played}
-use Rattle.note_frame.proofs.FramesLaws.{frames-same, frames-silent, frames-length, frames-join, interleaved-length, interleaved-join, interleaved-silent, sounding-join, sounding-silent}
+use Rattle.note_frame.proofs.FramesLaws.{frames-same, frames-silent, frames-join, interleaved-frames, interleaved-join, interleaved-silent, sounding-join, sounding-silent}
 
 -- a block of frames that are the same
 pub played-same : (f g : ℕ → Frame) (m d : ℕ) (before after : List ℤ) (r : ℕ) → ((j : ℕ) → m ≤ j → j < m + d → f j ≡ g j) → Played f m d before after r → Played g m d before after r
@@ -57,6 +57,5 @@ module _ (f : ℕ → Frame) (m d r : ℕ) (before mid : List ℤ) (ends : (j : 
   pub whole-buffer : (after : List ℤ) → length mid ≡ length before → after ≡ take (2 * r) mid ++ replicate (length mid - 2 * r) (pos 0) → after ≡ interleaved (framesFrom f m (length before / 2))
   whole-buffer after same is =
       let tail : length mid - 2 * r ≡ 2 * left = omega (arith, played .within) in
-      let long : length (interleaved (framesFrom f m r)) ≡ 2 * r = interleaved-length (framesFrom f m r) ∙ ap (λ (n : ℕ). 2 * n) (frames-length f m r) in
-      let front : take (2 * r) mid ≡ interleaved (framesFrom f m r) = ap (take (2 * r)) (played .out-is) ∙ take-at (interleaved (framesFrom f m r)) (drop (2 * r) before) (2 * r) long in
+      let front : take (2 * r) mid ≡ interleaved (framesFrom f m r) = ap (take (2 * r)) (played .out-is) ∙ take-at (interleaved (framesFrom f m r)) (drop (2 * r) before) (2 * r) (interleaved-frames f m r) in
       is ∙ rw (front, tail, all-are, interleaved-join (framesFrom f m r) (replicate left silent), interleaved-silent left)

@@ -1,13 +1,14 @@
 -- Frames in order, their values by turns, and how many of them aren't over.
 --     frames-shift, frames-same, frames-silent                  frames that are the same, or all silent
---     frames-none, frames-length, frames-join, frames-next      how many there are, and those that follow others
---     interleaved-length, -half, -join, -silent, -none, -next   their values, two for each
+--     frames-none, -length, -join, -split, -next                how many there are, and those that follow others
+--     interleaved-length, -frames, -half                        their values, two for each
+--     interleaved-join, -silent, -none, -next                   those of frames that follow others, are silent, or one more
 --     sounding-join, -silent, -all, -none                       how many of them aren't over
 -- Assumes nothing.
-use Prim.Native.Nat.{ℕ, zero, suc, _+_, _*_, _/_, _≤_, _<_}
+use Prim.Native.Nat.{ℕ, zero, suc, _+_, _-_, _*_, _/_, _≤_, _<_}
 use mathlib.Core.Bool.{true}
 use mathlib.Core.List.{List, [], _∷_, _++_}
-use mathlib.Core.Path.{_≡_, refl, sym, ap}
+use mathlib.Core.Path.{_≡_, refl, sym, ap, _∙_}
 use native.Mathlib.Nat.{add-zero, zero-add}
 use native.Mathlib.Omega.{arith}
 use lib.IntN.{ℤ, pos}
@@ -57,6 +58,13 @@ module _ (f : ℕ → Frame) where
       let past : suc m + d ≡ m + suc d = omega arith in
       rw (more, frames-join (suc m) d c, past)
 
+  -- those up to frame p, and those from there on
+  pub frames-split : (m p q : ℕ) → m ≤ p → p ≤ q → framesFrom f m (q - m) ≡ framesFrom f m (p - m) ++ framesFrom f p (q - p)
+  frames-split m p q a b =
+      let total : q - m ≡ (p - m) + (q - p) = omega arith in
+      let at : m + (p - m) ≡ p = omega arith in
+      rw total (frames-join m (p - m) (q - p) ∙ rw at)
+
   pub frames-next : (m d : ℕ) → framesFrom f m (d + 1) ≡ framesFrom f m d ++ (f (m + d) ∷ [])
   unfolding framesFrom
   frames-next m d = frames-join m d 1
@@ -67,6 +75,9 @@ pub interleaved-length : (fs : List Frame) → length (interleaved fs) ≡ 2 * l
 unfolding interleaved
 interleaved-length [] = refl
 interleaved-length (f ∷ fs) = omega (arith, interleaved-length fs)
+
+pub interleaved-frames : (f : ℕ → Frame) (m d : ℕ) → length (interleaved (framesFrom f m d)) ≡ 2 * d
+interleaved-frames f m d = interleaved-length (framesFrom f m d) ∙ ap (λ (n : ℕ). 2 * n) (frames-length f m d)
 
 pub interleaved-half : (fs : List Frame) → length (interleaved fs) / 2 ≡ length fs
 interleaved-half fs = omega (arith, interleaved-length fs)

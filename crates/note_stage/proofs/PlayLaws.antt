@@ -5,7 +5,7 @@
 -- Assumes nothing.
 use Prim.Native.Nat.{ℕ, _+_, _-_, _*_, _/_, _≤_, _<_}
 use mathlib.Core.Bool.{Bool, true, false, true≢false, cond, _&&_}
-use mathlib.Core.List.{List, _++_}
+use mathlib.Core.List.{List}
 use mathlib.Core.Path.{_≡_, refl, sym, ap, _∙_}
 use native.Mathlib.Omega.{arith}
 use borrow.Author.Tests.{lt-ltb, ltb-true}
@@ -27,7 +27,7 @@ use Rattle.note_frame.specs.Frames.{framesFrom, interleaved, sounding}
 use Rattle.note_frame.specs.declared.chain.Frame.{Frame}
 use Rattle.note_frame.specs.declared.chain.Gains.{Gains}
 use Rattle.note_frame.proofs.ChainLaws.{not-over}
-use Rattle.note_frame.proofs.FramesLaws.{frames-same, frames-length, frames-join, interleaved-length, interleaved-none, interleaved-join, sounding-none, sounding-join, sounding-all}
+use Rattle.note_frame.proofs.FramesLaws.{frames-same, frames-split, interleaved-frames, interleaved-none, interleaved-join, sounding-none, sounding-join, sounding-all}
 use Rattle.note_stage.specs.Block.{stageFrame, Stands, runFrame, Suits, isOver, StretchReady, Stretched, Playable, Played}
 use Rattle.note_stage.specs.declared.Stage.{Stage}
 use Rattle.note_stage.specs.declared.playhead.Playhead.{Playhead}
@@ -70,12 +70,10 @@ module _ (g : Gains) (path : Path) (s : Stage) (points segments : List ℕ) (lef
     pub so-far-length : length out ≡ length before
     so-far-length = rw (k .stored .is) (length-sets before 0 (interleaved (framesFrom f m (h .frame - m))))
 
-    size : length (interleaved (framesFrom f m (h .frame - m))) ≡ 2 * (h .frame - m)
-    size = interleaved-length (framesFrom f m (h .frame - m)) ∙ ap (λ (n : ℕ). 2 * n) (frames-length f m (h .frame - m))
-
     -- where the frames after them are over
     ended : ((p : ℕ) → h .frame ≤ p → p < m + d → f p ≡ silent) → Played f m d before out (h .frame - m)
     ended over =
+        let size = interleaved-frames f m (h .frame - m) in
         record {
           within = omega (arith, k .begun, k .within);
           out-is = put-front (omega (arith, size, asked .room, k .within)) (k .stored) ∙ rw size;
@@ -151,9 +149,8 @@ module _ (g : Gains) (path : Path) (s : Stage) (points segments : List ℕ) (lef
             let began = k .begun in
             let further = t .further in
             let total : h′ .frame - m ≡ (p - m) + n = omega arith in
-            let at : m + (p - m) ≡ p = omega arith in
             let fs = framesFrom f m (p - m) in
-            let more : framesFrom f m (h′ .frame - m) ≡ fs ++ framesFrom f p n = rw total (frames-join f m (p - m) n ∙ rw at) in
+            let more = frames-split f m p (h′ .frame) (omega arith) (omega arith) in
             let made-at : (j : ℕ) → p ≤ j → j < p + n → f j ≡ runFrame g r′ (e′ .now) left right (stepOf (s .step) j) =
             λ j a b. made j a (t .in-steps j a (omega arith)) (t .in-level j a (omega arith)) in
             let same = frames-same f (λ j. runFrame g r′ (e′ .now) left right (stepOf (s .step) j)) p n made-at in

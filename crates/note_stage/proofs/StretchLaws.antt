@@ -7,7 +7,7 @@
 -- Assumes nothing.
 use Prim.Native.Nat.{ℕ, _+_, _-_, _*_, _/_, _≤_, _<_}
 use mathlib.Core.Bool.{Bool, true, false, true≢false, _&&_, and-eq-true-iff}
-use mathlib.Core.List.{List, [], _∷_, _++_}
+use mathlib.Core.List.{List, [], _∷_}
 use mathlib.Core.Path.{_≡_, refl, sym, ap, subst, _∙_}
 use native.Mathlib.Numerals.{add-one}
 use native.Mathlib.Omega.{arith}
@@ -21,7 +21,7 @@ use Rattle.laws.proofs.PutLaws.{put-none, put-then, put-same}
 use Rattle.note_frame.specs.Frame.{stepOf, msSince}
 use Rattle.note_frame.specs.Frames.{framesFrom, interleaved}
 use Rattle.note_frame.specs.declared.chain.Frame.{Frame}
-use Rattle.note_frame.proofs.FramesLaws.{frames-same, frames-join, interleaved-none, interleaved-next, interleaved-join}
+use Rattle.note_frame.proofs.FramesLaws.{frames-same, frames-split, interleaved-none, interleaved-next, interleaved-join}
 use Rattle.note_stage.specs.Block.{Stands, goesOn, StretchReady, Stretched}
 use Rattle.note_stage.specs.declared.Stage.{Stage}
 use Rattle.note_stage.specs.declared.playhead.Playhead.{Playhead}
@@ -120,13 +120,9 @@ module _ (f : ℕ → Frame) (s : Stage) (until ms m end : ℕ) (h₀ : Playhead
     stretching-more out′ h′ t =
         let began = k .begun in
         let further = t .further in
-        let n = h .frame - h₀ .frame in
-        let total : h′ .frame - h₀ .frame ≡ n + (h′ .frame - h .frame) = omega arith in
-        let at : h₀ .frame + n ≡ h .frame = omega arith in
-        let fs = framesFrom f (h₀ .frame) n in
-        let joined : interleaved (framesFrom f (h₀ .frame) (h′ .frame - h₀ .frame)) ≡ interleaved fs ++ interleaved (framesFrom f (h .frame) (h′ .frame - h .frame)) =
-        rw (total, frames-join f (h₀ .frame) n (h′ .frame - h .frame), at) (interleaved-join fs (framesFrom f (h .frame) (h′ .frame - h .frame)))
-        in
+        let fs = framesFrom f (h₀ .frame) (h .frame - h₀ .frame) in
+        let more = frames-split f (h₀ .frame) (h .frame) (h′ .frame) (omega arith) (omega arith) in
+        let joined = ap interleaved more ∙ interleaved-join fs (framesFrom f (h .frame) (h′ .frame - h .frame)) in
         record {
           begun = omega arith;
           within = t .within;
