@@ -132,7 +132,7 @@ uint32_t svx_decode_body(const uint8_t *body, size_t body_len, uint8_t compressi
  * Refused by 12, 20. */
 uint32_t svx_fibonacci_decode_channel(const uint8_t *body, size_t body_len, int8_t *out, size_t out_len, uint64_t *length);
 
-/* A channel's samples as Fibonacci bytes.
+/* A channel's samples as Fibonacci bytes, each by the step that leads nearest, of those as near the smallest.
  * Refused by 20. */
 uint32_t svx_fibonacci_encode_channel(const int8_t *samples, size_t samples_len, uint8_t *out, size_t out_len, uint64_t *length);
 

@@ -1,5 +1,5 @@
 //! Voices: the library's file or refusal against the original's.
-use crate::{abi, make, parse, rust_side};
+use crate::{abi, make, parse, plain_fibonacci, rust_side};
 
 /// A voice in flat form: its sheet and both sides.
 pub fn flat(v: &oracle::svx::Voice) -> (Vec<u8>, Vec<i8>, Vec<i8>) { (rust_side::flat(v), rust_side::side(v, 0), rust_side::side(v, 1)) }
@@ -13,6 +13,25 @@ pub fn library(s: &[u8], l: &[i8], r: &[i8]) -> Result<Vec<u8>, u32> {
     let mut short = vec![0xA5; n - 1];
     assert_eq!(abi::encode_voice(s, l, r, &mut short), Err(20), "a short buffer");
     assert!(short.iter().all(|x| *x == 0xA5), "a refused call wrote");
+    Ok(file)
+}
+
+/// The file or refusal that is to come out: the original's, but where a Fibonacci channel meets a tie the plain rule's bytes stand in BODY,
+/// which is the last chunk.
+pub fn wanted(v: &oracle::svx::Voice, channels: &mut plain_fibonacci::Count) -> Result<Vec<u8>, u32> {
+    let mut file = rust_side::encode(v)?;
+    if v.header.compression_byte == 1 {
+        let sides: Vec<Vec<i8>> = v.channels.iter().map(|c| c.flattened()).collect();
+        let length: usize = sides.iter().map(|side| 2 + side.len() / 2).sum();
+        let mut at = file.len() - length - length % 2;
+        assert_eq!(file[at - 8..at], *[*b"BODY", (length as u32).to_be_bytes()].as_flattened(), "BODY is the last chunk");
+        for side in &sides {
+            let end = at + 2 + side.len() / 2;
+            let bytes = channels.wanted(side, &file[at..end]);
+            file[at..end].copy_from_slice(&bytes);
+            at = end;
+        }
+    }
     Ok(file)
 }
 
@@ -48,6 +67,7 @@ fn same_rule(h: &oracle::svx::VoiceHeader, want: u32, got: u32) -> bool {
 pub fn run(n: u64, seed: u64) {
     let mut counts = [0u64; 21];
     let (mut skipped, mut back, mut overflowing) = (0u64, 0u64, 0u64);
+    let mut channels = plain_fibonacci::Count::default();
     let mut r = make::Rng::new(seed ^ 0xE7C0DE);
     let mut done = 0;
     while done < n {
@@ -58,14 +78,14 @@ pub fn run(n: u64, seed: u64) {
         }
         done += 1;
         let (s, a, b) = flat(&v);
-        let (want, got) = (rust_side::encode(&v), library(&s, &a, &b));
+        let (want, got) = (wanted(&v, &mut channels), library(&s, &a, &b));
         let agree = match (&want, &got) {
             (Ok(x), Ok(y)) => x == y,
             (Err(x), Err(y)) => same_rule(&v.header, *x, *y),
             _ => false,
         };
         if !agree {
-            println!("voice {done} of seed {seed} differs\n  sheet {s:02X?}\n  left {a:?}\n  right {b:?}\n  original {want:02X?}\n  library {got:02X?}");
+            println!("voice {done} of seed {seed} differs\n  sheet {s:02X?}\n  left {a:?}\n  right {b:?}\n  wanted {want:02X?}\n  library {got:02X?}");
             std::process::exit(1);
         }
         overflowing += overflows(&v.header) as u64;
@@ -84,6 +104,7 @@ pub fn run(n: u64, seed: u64) {
     println!("encode: {n} voices of seed {seed}, no difference; {} written, {back} of them raw and tidy and the same after reading; refused by number:", counts[0]);
     let by: Vec<String> = (1..21).filter(|k| counts[*k] > 0).map(|k| format!("{k}: {}", counts[k])).collect();
     println!("  {}; left out, as the flat form can't say them: {skipped}", by.join(", "));
+    println!("  Fibonacci channels: {channels}");
     println!("  a total past 64 bits: {overflowing} voices, {} refused by 13 where the original says 18, the others by 10", counts[13]);
     assert!(counts[13] <= overflowing && overflowing <= counts[13] + counts[10], "a voice whose total is past 64 bits was written");
 }

@@ -1,9 +1,10 @@
 //! The fixed list: inputs and the original's answers, replayed by the gate's program `replay`.
 //!
-//! FOLDER/stdin has the cases. A case is a byte (1 reading, 2 writing, 0 the end) and its slices, each with its length in four bytes,
-//! big-endian: the file; or sheet, left and right. FOLDER/stdout has a line for each: the refusal's number, or the outputs in
-//! hexadecimal.
-use crate::{encode, make, parse, rust_side};
+//! FOLDER/stdin has the cases. A case is a byte (1 reading, 2 writing, 3 writing a Fibonacci channel that meets a tie, 0 the end) and its
+//! slices, each with its length in four bytes, big-endian: the file; or sheet, left and right. FOLDER/stdout has a line for each: the
+//! refusal's number, or the outputs in hexadecimal. The lines of 3 begin with `tie` and aren't the original's: there the channels are by the
+//! plain rule of plain_fibonacci.rs.
+use crate::{encode, make, parse, plain_fibonacci, rust_side};
 use std::fmt::Write;
 
 fn slice(out: &mut Vec<u8>, s: &[u8]) {
@@ -19,7 +20,7 @@ fn hex(line: &mut String, s: &[u8]) {
     line.push('.');
 }
 
-struct List { cases: Vec<u8>, answers: String, counts: [u32; 21] }
+struct List { cases: Vec<u8>, answers: String, counts: [u32; 21], channels: plain_fibonacci::Count }
 
 impl List {
     fn refused(&mut self, n: u32) {
@@ -45,15 +46,18 @@ impl List {
 
     fn writing(&mut self, v: &oracle::svx::Voice) {
         let (s, l, r) = encode::flat(v);
-        self.cases.push(2);
+        let tied = self.channels.tied;
+        let answer = encode::wanted(v, &mut self.channels);
+        let tie = tied < self.channels.tied;
+        self.cases.push(if tie { 3 } else { 2 });
         slice(&mut self.cases, &s);
         slice(&mut self.cases, &bytes(&l));
         slice(&mut self.cases, &bytes(&r));
-        match rust_side::encode(v) {
+        match answer {
             Err(n) => self.refused(n),
             Ok(file) => {
                 self.counts[0] += 1;
-                let mut line = String::from("file");
+                let mut line = String::from(if tie { "tie file" } else { "file" });
                 hex(&mut line, &file);
                 writeln!(self.answers, "{line}").unwrap();
             }
@@ -68,7 +72,7 @@ const EXAMPLE: [u8; 50] = [
 ];
 
 pub fn run(folder: &str) {
-    let mut list = List { cases: Vec::new(), answers: String::new(), counts: [0; 21] };
+    let mut list = List { cases: Vec::new(), answers: String::new(), counts: [0; 21], channels: Default::default() };
     list.reading(&EXAMPLE);
     for n in [0, 11, 12, 39, 40, 48, 49] { list.reading(&EXAMPLE[..n]); }
     let mut r = make::Rng::new(20261115);
@@ -96,4 +100,5 @@ pub fn run(folder: &str) {
     std::fs::write(format!("{folder}/stdin"), &list.cases).expect("written");
     std::fs::write(format!("{folder}/stdout"), &list.answers).expect("written");
     println!("{cases} cases; accepted and refused by number: {:?}", list.counts);
+    println!("Fibonacci channels written: {}; {} cases are marked", list.channels, list.answers.lines().filter(|l| l.starts_with("tie")).count());
 }

@@ -1,8 +1,8 @@
 //! Compares the library with the original Rust module, input by input.
 //!
 //!     compare parse N [SEED]     files: refusal or sheet and samples
-//!     compare encode N [SEED]    voices: refusal or file
-//!     compare parts N [SEED]     codecs, octaves, loops, levels, floats
+//!     compare encode N [SEED]    voices: refusal or file; Fibonacci channels that meet a tie by a plain rule (plain_fibonacci.rs)
+//!     compare parts N [SEED]     codecs (the same), octaves, loops, levels, floats
 //!     compare note N [SEED]      notes: fills and key-ups against a plain note, written from the specification (plain_note.rs)
 //!     compare note-long N [SEED] the same in blocks of fewer than 20,000 frames
 //!     compare wave N [SEED]      octaves as WAVE files against a plain version (plain_wave.rs), and taken apart again
@@ -25,6 +25,7 @@ mod note;
 mod note_bench;
 mod parse;
 mod parts;
+mod plain_fibonacci;
 mod plain_note;
 mod plain_wave;
 mod rust_side;

@@ -1,9 +1,9 @@
 //! What stands beside reading and writing: both codecs, a whole BODY, octaves, loops, levels, pan, volume and frequency.
-use crate::{abi, make};
+use crate::{abi, make, plain_fibonacci};
 use oracle::svx::{self, ChannelSamples, EgPoint, Envelope, Pan, VoiceHeader};
 use oracle::svx_open;
 
-fn fibonacci(r: &mut make::Rng) {
+fn fibonacci(r: &mut make::Rng, channels: &mut plain_fibonacci::Count) {
     let n = r.below(40) as usize;
     let body = r.bytes(n);
     let want = svx::fibonacci_decode_channel(&body).map_err(|_| 12);
@@ -13,11 +13,21 @@ fn fibonacci(r: &mut make::Rng) {
     let kept = want.map_or(0, |w| w.len());
     assert!(out[kept..].iter().all(|x| *x == 0x5A), "past the output");
     let samples = r.samples(n);
-    let want = svx::fibonacci_encode_channel(&samples);
+    let want = channels.wanted(&samples, &svx::fibonacci_encode_channel(&samples));
     let mut out = vec![0xA5u8; n + 4];
     let got = abi::fibonacci_encode_channel(&samples, &mut out);
     assert_eq!(got, Ok(want.len()), "encoding {samples:?}");
     assert!(out.starts_with(&want) && out[want.len()..].iter().all(|x| *x == 0xA5), "encoding {samples:?}");
+}
+
+/// A first sample and every sample that can follow it: each choice that the writer can meet.
+fn every_choice(channels: &mut plain_fibonacci::Count) {
+    for samples in (-128..=127).flat_map(|a| (-128..=127).map(move |b| [a, b])) {
+        let want = channels.wanted(&samples, &svx::fibonacci_encode_channel(&samples));
+        let mut out = [0xA5u8; 4];
+        assert_eq!(abi::fibonacci_encode_channel(&samples, &mut out), Ok(3), "encoding {samples:?}");
+        assert_eq!(out[..3], want, "encoding {samples:?}");
+    }
 }
 
 fn whole_body(r: &mut make::Rng) {
@@ -98,13 +108,18 @@ fn floats(r: &mut make::Rng) {
 
 pub fn run(n: u64, seed: u64) {
     let mut r = make::Rng::new(seed ^ 0x0C7A);
+    let mut channels = plain_fibonacci::Count::default();
     for _ in 0..n {
-        fibonacci(&mut r);
+        fibonacci(&mut r, &mut channels);
         whole_body(&mut r);
         octaves(&mut r);
         levels(&mut r);
         floats(&mut r);
     }
     println!("parts: {n} inputs each of seed {seed} for both Fibonacci codecs, decode_body, octave lengths, loop_split, level, pan, volume and frequency: no difference");
+    println!("  channels written: {channels}");
+    let mut choices = plain_fibonacci::Count::default();
+    every_choice(&mut choices);
+    println!("  every choice of a nibble: {choices}");
     println!("  (the peak, which the original hasn't, against a plain search)");
 }

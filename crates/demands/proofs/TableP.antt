@@ -16,7 +16,7 @@ use Rattle.note_frame.specs.Shares.{sharesOf}
 use Rattle.note_rules.specs.Rules.{fillRules}
 use Rattle.note.specs.Fill.{fillVoice}
 use Rattle.demands.specs.Reckoning.{reckonFrom}
-use Rattle.demands.specs.TableP.{TableP}
+use Rattle.demands.specs.TableP.{TableP, EqualDistances}
 use Rattle.demands.proofs.Demand2.{demand2}
 
 pub tableP : TableP
@@ -28,7 +28,7 @@ tableP = record {
   held-below = ap gives fibonacci.held-low;
   one-byte = fibonacci.short;
   one-up = fibonacci.one-up;
-  lower-of-two = fibonacci.tie-low;
+  smaller-of-two = fibonacci.tie-up;
   none-written = fibonacci.none;
   on-the-way = refl;
   at-its-end = refl;
@@ -40,3 +40,6 @@ tableP = record {
   whole-file-written = demand2 .example-written;
   whole-file-played = rw (demand2 .example-read) refl;
 }
+
+pub equalDistances : EqualDistances
+equalDistances = record { downward = fibonacci.down-again; upward = fibonacci.up-again }

@@ -1,15 +1,17 @@
--- Table P: examples of the meanings, every row, as one theorem. It is proved as `tableP`.
+-- Table P: examples of the meanings, every row, as one theorem, and beside it two of equal distances. They are proved as `tableP` and
+-- `equalDistances`.
 use Prim.Native.Nat.{ℕ, _-_, _^_}
 use mathlib.Core.List.{List, [], _∷_}
 use mathlib.Core.Path.{_≡_}
 use lib.IntN.{ℤ, pos, negsuc}
+use lib.ListN.{length, take}
 use Rattle.refusal.specs.Numbers.{channelShort, octaveTotal}
 use Rattle.refusal.specs.Outcome.{gives, refuses}
 use Rattle.header.specs.Octaves.{total}
 use Rattle.header.specs.declared.«voice_header».Total.the-variants.{Sum, Refused}
 use Rattle.header.specs.declared.«voice_header».VoiceHeader.{VoiceHeader}
 use Rattle.small_chunks.specs.declared.points.EgPoint.{EgPoint}
-use Rattle.fibonacci.specs.Decode.{fibChannel}
+use Rattle.fibonacci.specs.Decode.{fibSamples, fibChannel}
 use Rattle.fibonacci.specs.Encode.{fibBytes}
 use Rattle.envelope.specs.Envelope.{levelAt}
 use Rattle.note_frame.specs.Frame.{value}
@@ -48,7 +50,7 @@ pub record TableP : Type 0 where
   -- writing 0, 1: 00 00 98
   pub one-up : fibBytes (pos 0 ∷ pos 1 ∷ []) ≡ 0x00 ∷ 0x00 ∷ 0x98 ∷ []
   -- writing 0, 4: 00 00 B8
-  pub lower-of-two : fibBytes (pos 0 ∷ pos 4 ∷ []) ≡ 0x00 ∷ 0x00 ∷ 0xB8 ∷ []
+  pub smaller-of-two : fibBytes (pos 0 ∷ pos 4 ∷ []) ≡ 0x00 ∷ 0x00 ∷ 0xB8 ∷ []
   -- writing none: 00 00
   pub none-written : fibBytes [] ≡ 0x00 ∷ 0x00 ∷ []
   -- from 0, point (10 ms, 65,536): t = 3 gives 19,660
@@ -70,3 +72,14 @@ pub record TableP : Type 0 where
   -- a block of two frames of it is -512 on both sides, then over
   pub whole-file-played : reckon exampleFile (record { octave = 0; step = 65536; rate = 8000 }) (fill 4 ∷ [])
       ≡ gives (record { answers = Answer.Sounding 1 ∷ []; blocks = negsuc 511 ∷ negsuc 511 ∷ pos 0 ∷ pos 0 ∷ [] })
+
+-- what samples become by being written and decoded: as many as they were
+abbrev pub writtenAndDecoded : List ℤ → List ℤ
+writtenAndDecoded samples = take (length samples) (fibSamples (fibBytes samples))
+
+-- beside the table: of two deltas that lead as near the one nearer to 0 is written, upward and downward
+pub record EqualDistances : Type 0 where
+  -- writing 0, -4 decodes to 0, -3
+  pub downward : writtenAndDecoded (pos 0 ∷ negsuc 3 ∷ []) ≡ pos 0 ∷ negsuc 2 ∷ []
+  -- writing 0, 4 to 0, 3
+  pub upward : writtenAndDecoded (pos 0 ∷ pos 4 ∷ []) ≡ pos 0 ∷ pos 3 ∷ []

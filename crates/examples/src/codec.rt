@@ -82,6 +82,7 @@ fn channels() {
     read(&[0x00]);
     write(&[0, 1]);
     write(&[0, 4]);
+    write(&[0, -4]);
     write(&[0, 100, 100]);
     write(&[-128, -128]);
     write(&[127, 127]);

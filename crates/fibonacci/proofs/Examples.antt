@@ -3,11 +3,12 @@
 use mathlib.Core.Path.{_≡_, refl}
 use mathlib.Core.List.{[], _∷_}
 use lib.IntN.{pos, negsuc}
+use lib.ListN.{take}
 use Rattle.refusal.specs.Outcome.{refuses}
 use Rattle.field.specs.Signed.{twosComplement, twosComplementBits}
 use Rattle.fibonacci.specs.Step.{deltas, toSample, fibStep}
 use Rattle.fibonacci.specs.Decode.{nibbles, running, fibSamples, fibChannel}
-use Rattle.fibonacci.specs.Pick.{argmin, distance, fibPick}
+use Rattle.fibonacci.specs.Pick.{less, argmin, deltaSize, nearest, distance, fibPick}
 use Rattle.fibonacci.specs.Encode.{picks, packed, fibBytes}
 
 -- 00 64 F1: 100, 121, 100
@@ -31,13 +32,27 @@ short = refl
 
 -- 0, 1: 00 00 98
 pub one-up : fibBytes (pos 0 ∷ pos 1 ∷ []) ≡ 0x00 ∷ 0x00 ∷ 0x98 ∷ []
-unfolding fibBytes picks packed fibPick argmin distance fibStep deltas toSample twosComplementBits
+unfolding fibBytes picks packed fibPick nearest argmin less distance deltaSize fibStep deltas toSample twosComplementBits
 one-up = refl
 
--- 0, 4: 00 00 B8, the lower of the two nibbles that lead as near
-pub tie-low : fibBytes (pos 0 ∷ pos 4 ∷ []) ≡ 0x00 ∷ 0x00 ∷ 0xB8 ∷ []
-unfolding fibBytes picks packed fibPick argmin distance fibStep deltas toSample twosComplementBits
-tie-low = refl
+-- 0, 4: 00 00 B8, by 3 and not by 5
+pub tie-up : fibBytes (pos 0 ∷ pos 4 ∷ []) ≡ 0x00 ∷ 0x00 ∷ 0xB8 ∷ []
+unfolding fibBytes picks packed fibPick nearest argmin less distance deltaSize fibStep deltas toSample twosComplementBits
+tie-up = refl
+
+-- 0, -4: 00 00 58, by -3 and not by -5
+pub tie-down : fibBytes (pos 0 ∷ negsuc 3 ∷ []) ≡ 0x00 ∷ 0x00 ∷ 0x58 ∷ []
+unfolding fibBytes picks packed fibPick nearest argmin less distance deltaSize fibStep deltas toSample twosComplementBits
+tie-down = refl
+
+-- decoded, these are 0, 3 and 0, -3
+pub up-again : take 2 (fibSamples (fibBytes (pos 0 ∷ pos 4 ∷ []))) ≡ pos 0 ∷ pos 3 ∷ []
+unfolding fibSamples running nibbles fibStep deltas toSample twosComplement
+up-again = rw tie-up refl
+
+pub down-again : take 2 (fibSamples (fibBytes (pos 0 ∷ negsuc 3 ∷ []))) ≡ pos 0 ∷ negsuc 2 ∷ []
+unfolding fibSamples running nibbles fibStep deltas toSample twosComplement
+down-again = rw tie-down refl
 
 -- no samples: 00 00
 pub none : fibBytes [] ≡ 0x00 ∷ 0x00 ∷ []
@@ -46,15 +61,15 @@ none = refl
 
 -- 0, 100, 100: 00 00 FF
 pub far : fibBytes (pos 0 ∷ pos 100 ∷ pos 100 ∷ []) ≡ 0x00 ∷ 0x00 ∷ 0xFF ∷ []
-unfolding fibBytes picks packed fibPick argmin distance fibStep deltas toSample twosComplementBits
+unfolding fibBytes picks packed fibPick nearest argmin less distance deltaSize fibStep deltas toSample twosComplementBits
 far = refl
 
--- -128, -128: 00 80 08
-pub lowest : fibBytes (negsuc 127 ∷ negsuc 127 ∷ []) ≡ 0x00 ∷ 0x80 ∷ 0x08 ∷ []
-unfolding fibBytes picks packed fibPick argmin distance fibStep deltas toSample twosComplementBits
+-- -128, -128: 00 80 88, as nine deltas are held at -128 and 0 is one of them
+pub lowest : fibBytes (negsuc 127 ∷ negsuc 127 ∷ []) ≡ 0x00 ∷ 0x80 ∷ 0x88 ∷ []
+unfolding fibBytes picks packed fibPick nearest argmin less distance deltaSize fibStep deltas toSample twosComplementBits
 lowest = refl
 
 -- 127, 127: 00 7F 88
 pub highest : fibBytes (pos 127 ∷ pos 127 ∷ []) ≡ 0x00 ∷ 0x7F ∷ 0x88 ∷ []
-unfolding fibBytes picks packed fibPick argmin distance fibStep deltas toSample twosComplementBits
+unfolding fibBytes picks packed fibPick nearest argmin less distance deltaSize fibStep deltas toSample twosComplementBits
 highest = refl

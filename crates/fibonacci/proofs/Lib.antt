@@ -1,7 +1,9 @@
 -- Laws that this crate's proofs and those above cite.
 pub mod StepLaws
 pub mod Least
+pub mod NearestLaws
 pub mod PickLaws
+pub mod TableLaws
 pub mod DecodeLaws
 pub mod EncodeLaws
 pub mod Survive

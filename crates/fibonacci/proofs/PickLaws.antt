@@ -1,7 +1,7 @@
--- The writer's choice. How far a nibble leads from the target falls up to the target and rises past it, so the choice is one of the two
--- nibbles whose deltas lie about the change; at -128 it is nibble 0.
+-- The writer's choice. A nibble whose delta lies toward the change, on its side, comes before each that lies past it: it leads nearer, or as
+-- near where both are held at one end, and then its delta is the nearer to 0. So the choice is one of the two nibbles about the change.
 -- Assumes nothing.
-use mathlib.Core.Path.{_≡_, refl, ap}
+use mathlib.Core.Path.{_≡_, refl, ap, subst}
 use mathlib.Core.Bool.{Bool, true, false}
 use Prim.Native.Nat.{ℕ, _+_, _-_, _≤_, _<_}
 use native.Mathlib.Nat.{not-suc-le-zero}
@@ -13,36 +13,55 @@ use lib.ListN.{getD}
 use lib.Signed.{ltZ, _≤ℤ_, _<ℤ_}
 use mir.Syntax.{w8}
 use mir.Val.{SFits}
-use Rattle.laws.proofs.Signed.{up, dn, zarith, known, sum, Diff, diff, abs-parts}
+use Rattle.laws.proofs.Signed.{up, dn, zarith, sum, Diff, diff, abs-parts}
 use Rattle.fibonacci.specs.Step.{deltas, fibStep}
-use Rattle.fibonacci.specs.Pick.{distance, fibPick}
+use Rattle.fibonacci.specs.Pick.{deltaSize, distance, fibPick}
 use Rattle.fibonacci.specs.Helpers.{nearestDelta, Between}
-use Rattle.fibonacci.proofs.StepLaws.{delta-rises, delta-no-lower, delta-first, delta-last, step-fits, step-last, step-free, step-rises, step-short, step-over, step-lower}
-use Rattle.fibonacci.proofs.Least.{Least, argmin-least, argmin-same, least-one}
+use Rattle.fibonacci.proofs.StepLaws.{delta-rises, delta-no-lower, delta-first, delta-middle, delta-last, size-falls, size-rises}
+use Rattle.fibonacci.proofs.StepLaws.{step-lowest, step-highest, step-free, step-rises, step-short, step-over, step-lower, step-higher}
+use Rattle.fibonacci.proofs.Least.{less-weak, less-then}
+use Rattle.fibonacci.proofs.NearestLaws.{Before, Nearest, nearest-laws, Alone, alone-is, nearest-same}
 
--- the law of the choice: no nibble is nearer, and each lower one is farther
-pub pick-least : (prev target : ℤ) → Least (distance prev target) 15 (fibPick prev target)
+-- ---- the choice
+
+pub pick-laws : (prev target : ℤ) → Nearest (distance prev target) (fibPick prev target)
 unfolding fibPick
-pick-least prev target = argmin-least (distance prev target) 15
+pick-laws prev target = nearest-laws (distance prev target)
 
-pub pick-is : (prev target : ℤ) (m : ℕ) → Least (distance prev target) 15 m → m ≡ fibPick prev target
-pick-is prev target m l = least-one (distance prev target) 15 m (fibPick prev target) l (pick-least prev target)
+pub pick-is : (prev target : ℤ) (m : ℕ) → Alone (distance prev target) m → m ≡ fibPick prev target
+unfolding fibPick
+pick-is prev target m a = alone-is (distance prev target) m a
+
+-- where one nibble alone is at the least distance it is picked: what the rule for equal distances says doesn't count there
+pub pick-untied : (prev target : ℤ) (m : ℕ) → m < 16 → ((k : ℕ) → k < 16 → (k ≡ m → ⊥) → distance prev target m < distance prev target k) → m ≡ fibPick prev target
+pick-untied prev target m w nearer = pick-is prev target m record {
+  within = w;
+  lower = (λ k h. first k (omega arith) (λ e. omega arith));
+  higher = (λ k h l. first k l (λ e. omega arith));
+}
+  where
+    first : (k : ℕ) → k < 16 → (k ≡ m → ⊥) → Before (distance prev target) m k
+    first k l other = record { first = omega (arith, nearer k l other); second = (λ e. absurd (omega (arith, nearer k l other))) }
+
+-- a nibble that comes before each other one is picked
+picked : (prev target : ℤ) (m : ℕ) → Alone (distance prev target) m → Alone (distance prev target) (fibPick prev target)
+picked prev target m a = subst (Alone (distance prev target)) (pick-is prev target m a) a
 
 pub pick-below : (prev target : ℤ) → fibPick prev target < 16
-pick-below prev target = omega (arith, pick-least prev target .within)
+pick-below prev target = pick-laws prev target .within
 
-no-farther : (prev target : ℤ) (k : ℕ) → k ≤ 15 → natAbs (fibStep prev (fibPick prev target) -ℤ target) ≤ natAbs (fibStep prev k -ℤ target)
+no-farther : (prev target : ℤ) (k : ℕ) → k < 16 → natAbs (fibStep prev (fibPick prev target) -ℤ target) ≤ natAbs (fibStep prev k -ℤ target)
 unfolding distance
-no-farther prev target k h = pick-least prev target .least k h
+no-farther prev target k h = pick-laws prev target .near k h
 
 -- a sample that a nibble reaches is reached by the nibble that is picked for it: what was decoded survives being written
-pub pick-exact : (prev : ℤ) (k : ℕ) → k ≤ 15 → fibStep prev (fibPick prev (fibStep prev k)) ≡ fibStep prev k
+pub pick-exact : (prev : ℤ) (k : ℕ) → k < 16 → fibStep prev (fibPick prev (fibStep prev k)) ≡ fibStep prev k
 pick-exact prev k h =
     let target = fibStep prev k in
     let picked = fibStep prev (fibPick prev target) in
     omega (zarith, no-farther prev target k h, diff picked target, abs-parts (picked -ℤ target), diff target target, abs-parts (target -ℤ target))
 
--- ---- how far the nibbles lead: the less, the nearer their deltas are to the change on its side
+-- ---- nibbles on one side of the change
 
 -- how far x is from g, by the side on which it lies
 module _ (g x : ℤ) where
@@ -52,68 +71,110 @@ module _ (g x : ℤ) where
   apart-above : g ≤ℤ x → natAbs (x -ℤ g) + (up g + dn x) ≡ up x + dn g
   apart-above h = omega (zarith, diff x g, abs-parts (x -ℤ g))
 
-module _ (prev target : ℤ) (f : SFits w8 target) (a b : ℕ) (within : b < 16) where
-  module _ (short : getD deltas b (pos 0) ≤ℤ (target -ℤ prev)) where
-    falls : a ≤ b → distance prev target b ≤ distance prev target a
-    unfolding distance
-    falls h =
-        let up-to : fibStep prev b ≤ℤ target = step-short prev target f b short in
-        let lower : fibStep prev a ≤ℤ fibStep prev b = step-rises prev a b h within in
-        omega (zarith, apart-below target (fibStep prev a) (omega zarith), apart-below target (fibStep prev b) up-to)
+module _ (prev target : ℤ) (p : SFits w8 prev) (f : SFits w8 target) where
+  module _ (a b : ℕ) (h : a < b) (l : b < 16) where
+    -- of two deltas that aren't past the change the higher comes first
+    module _ (short : getD deltas b (pos 0) ≤ℤ (target -ℤ prev)) where
+      falls-to : distance prev target b ≤ distance prev target a
+      unfolding distance
+      falls-to =
+          let up-to : fibStep prev b ≤ℤ target = step-short prev target f b short in
+          let lower : fibStep prev a ≤ℤ fibStep prev b = step-rises prev a b (omega arith) l in
+          omega (zarith, apart-below target (fibStep prev a) (omega zarith), apart-below target (fibStep prev b) up-to)
 
-    falls-strictly : a < b → negsuc 127 <ℤ fibStep prev b → distance prev target b < distance prev target a
-    unfolding distance
-    falls-strictly h free =
-        let up-to : fibStep prev b ≤ℤ target = step-short prev target f b short in
-        let lower : fibStep prev a <ℤ fibStep prev b = step-lower prev target f b short a h within free in
-        omega (zarith, apart-below target (fibStep prev a) (omega zarith), apart-below target (fibStep prev b) up-to)
+      falls-strictly : negsuc 127 <ℤ fibStep prev b → distance prev target b < distance prev target a
+      unfolding distance
+      falls-strictly free =
+          let up-to : fibStep prev b ≤ℤ target = step-short prev target f b short in
+          let lower : fibStep prev a <ℤ fibStep prev b = step-lower prev target f b short a h l free in
+          omega (zarith, apart-below target (fibStep prev a) (omega zarith), apart-below target (fibStep prev b) up-to)
 
-  rises : a ≤ b → (target -ℤ prev) ≤ℤ getD deltas a (pos 0) → distance prev target a ≤ distance prev target b
-  unfolding distance
-  rises h over =
-      let from : target ≤ℤ fibStep prev a = step-over prev target f a over in
-      let higher : fibStep prev a ≤ℤ fibStep prev b = step-rises prev a b h within in
-      omega (zarith, apart-above target (fibStep prev a) from, apart-above target (fibStep prev b) (omega zarith))
+      falls : Before (distance prev target) b a
+      falls = record { first = falls-to; second = go (ltZ (negsuc 127) (fibStep prev b)) refl }
+        where
+          go : (t : Bool) → ltZ (negsuc 127) (fibStep prev b) ≡ t → distance prev target b ≡ distance prev target a → deltaSize b < deltaSize a
+          go true e s = absurd (omega (arith, falls-strictly (omega zarith)))
+          go false e s = size-falls a b h l (step-lowest prev p b (omega zarith))
 
-same-step : (prev target : ℤ) (a b : ℕ) → fibStep prev a ≡ fibStep prev b → distance prev target a ≡ distance prev target b
-unfolding distance
-same-step prev target a b e = ap (λ (z : ℤ). natAbs (z -ℤ target)) e
+    -- of two that aren't before it the lower
+    module _ (over : (target -ℤ prev) ≤ℤ getD deltas a (pos 0)) where
+      rises-to : distance prev target a ≤ distance prev target b
+      unfolding distance
+      rises-to =
+          let from : target ≤ℤ fibStep prev a = step-over prev target f a over in
+          let higher : fibStep prev a ≤ℤ fibStep prev b = step-rises prev a b (omega arith) l in
+          omega (zarith, apart-above target (fibStep prev a) from, apart-above target (fibStep prev b) (omega zarith))
 
--- ---- the choice, by where the change lies among the deltas
+      rises-strictly : fibStep prev a <ℤ pos 127 → distance prev target a < distance prev target b
+      unfolding distance
+      rises-strictly free =
+          let from : target ≤ℤ fibStep prev a = step-over prev target f a over in
+          let higher : fibStep prev a <ℤ fibStep prev b = step-higher prev target f a over b h l free in
+          omega (zarith, apart-above target (fibStep prev a) from, apart-above target (fibStep prev b) (omega zarith))
 
-module _ (prev target : ℤ) (f : SFits w8 target) where
+      rises : Before (distance prev target) a b
+      rises = record { first = rises-to; second = go (ltZ (fibStep prev a) (pos 127)) refl }
+        where
+          go : (t : Bool) → ltZ (fibStep prev a) (pos 127) ≡ t → distance prev target a ≡ distance prev target b → deltaSize a < deltaSize b
+          go true e s = absurd (omega (arith, rises-strictly (omega zarith)))
+          go false e s = size-rises a b h l (step-highest prev p a (omega zarith))
+
+  -- ---- the choice, by where the change lies among the deltas
+
   -- not past the first
-  pub pick-first : (target -ℤ prev) ≤ℤ negsuc 33 → 0 ≡ fibPick prev target
-  pick-first h = pick-is prev target 0 record {
+  first-alone : (target -ℤ prev) ≤ℤ negsuc 33 → Alone (distance prev target) 0
+  first-alone h = record {
     within = omega arith;
-    least = (λ k l. rises prev target f 0 k (omega arith) (omega arith) (omega (zarith, delta-first)));
-    first = (λ k l. absurd (not-suc-le-zero l));
+    lower = (λ k l. absurd (not-suc-le-zero l));
+    higher = (λ k l w. rises 0 k l w (omega (zarith, delta-first)));
   }
 
+  pub pick-first : (target -ℤ prev) ≤ℤ negsuc 33 → 0 ≡ fibPick prev target
+  pick-first h = pick-is prev target 0 (first-alone h)
+
   -- not before the last
-  pub pick-last : SFits w8 prev → pos 21 ≤ℤ (target -ℤ prev) → 15 ≡ fibPick prev target
-  pick-last p h =
-      let short : getD deltas 15 (pos 0) ≤ℤ (target -ℤ prev) = omega (zarith, delta-last) in
-      pick-is prev target 15 record {
-        within = omega arith;
-        least = (λ k l. falls prev target f k 15 (omega arith) short l);
-        first = (λ k l. falls-strictly prev target f k 15 (omega arith) short l (step-last prev p));
-      }
+  last-alone : pos 21 ≤ℤ (target -ℤ prev) → Alone (distance prev target) 15
+  last-alone h = record {
+    within = omega arith;
+    lower = (λ k l. falls k 15 l (omega arith) (omega (zarith, delta-last)));
+    higher = (λ k l w. absurd (omega arith));
+  }
 
-  -- between two: the nearer, the lower where they are as near, and nibble 0 where that is held at -128
+  pub pick-last : pos 21 ≤ℤ (target -ℤ prev) → 15 ≡ fibPick prev target
+  pick-last h = pick-is prev target 15 (last-alone h)
+
+  -- between two: the nearer, and where they are as near the one whose delta is nearer to 0
   module _ (above : ℕ) (two : Between prev target above) where
-    reached : (k : ℕ) → k ≤ above - 1 → distance prev target (above - 1) ≤ distance prev target k
-    reached k h = falls prev target f k (above - 1) (omega (arith, two .within)) (omega (zarith, two .past)) h
+    -- of those at or below the change the upper of them comes first, of those at or above it the lower
+    before-lower : (k : ℕ) → k < above - 1 → Before (distance prev target) (above - 1) k
+    before-lower k h = falls k (above - 1) h (omega (arith, two .within)) (omega (zarith, two .past))
 
-    -- what leads no farther than the two leads no farther than any
-    of-all :
-        (m : ℕ) → distance prev target m ≤ distance prev target (above - 1) → distance prev target m ≤ distance prev target above → (k : ℕ) → k ≤ 15 →
-        distance prev target m ≤ distance prev target k
-    of-all m b a k h = go (ltb k above) refl
+    before-higher : (k : ℕ) → above < k → k < 16 → Before (distance prev target) above k
+    before-higher k h l = rises above k h l (two .short)
+
+    above-alone : Before (distance prev target) above (above - 1) → Alone (distance prev target) above
+    above-alone b = record { within = two .within; lower = lower; higher = before-higher }
       where
-        go : (t : Bool) → ltb k above ≡ t → distance prev target m ≤ distance prev target k
-        go true e = omega (arith, reached k (omega (arith, ltb-true k above e)))
-        go false e = omega (arith, rises prev target f above k (omega arith) (ltb-false k above e) (two .short))
+        lower : (k : ℕ) → k < above → Before (distance prev target) above k
+        lower k h = go (ltb k (above - 1)) refl
+          where
+            go : (t : Bool) → ltb k (above - 1) ≡ t → Before (distance prev target) above k
+            go true e = less-then _ _ _ b (less-weak _ _ (before-lower k (ltb-true _ _ e)))
+            go false e =
+                let same : k ≡ above - 1 = omega (arith, ltb-false k (above - 1) e) in
+                rw same b
+
+    below-alone : Before (distance prev target) (above - 1) above → Alone (distance prev target) (above - 1)
+    below-alone b = record { within = omega (arith, two .within); lower = before-lower; higher = higher }
+      where
+        higher : (k : ℕ) → above - 1 < k → k < 16 → Before (distance prev target) (above - 1) k
+        higher k h l = go (ltb above k) refl
+          where
+            go : (t : Bool) → ltb above k ≡ t → Before (distance prev target) (above - 1) k
+            go true e = less-then _ _ _ b (less-weak _ _ (before-higher k (ltb-true _ _ e) l))
+            go false e =
+                let same : k ≡ above = omega (arith, ltb-false above k e) in
+                rw same b
 
     -- by how much the two lead past the target and short of it
     record Leads : Type 0 where
@@ -131,55 +192,81 @@ module _ (prev target : ℤ) (f : SFits w8 target) where
       under-parts = diff target (fibStep prev (above - 1));
     }
 
-    pub pick-above : (fibStep prev above -ℤ target) <ℤ (target -ℤ fibStep prev (above - 1)) → above ≡ fibPick prev target
-    pick-above h =
+    above-first : (fibStep prev above -ℤ target) <ℤ (target -ℤ fibStep prev (above - 1)) → Before (distance prev target) above (above - 1)
+    above-first h =
         let nearer : distance prev target above < distance prev target (above - 1) = omega (zarith, leads) in
-        pick-is prev target above record {
-          within = omega (arith, two .within);
-          least = of-all above (omega arith) (omega arith);
-          first = (λ k l. omega (arith, reached k (omega arith)));
-        }
+        record { first = omega arith; second = (λ s. absurd (omega arith)) }
 
-    module _ (h : (target -ℤ fibStep prev (above - 1)) ≤ℤ (fibStep prev above -ℤ target)) where
-      as-near : distance prev target (above - 1) ≤ distance prev target above
+    below-first : (target -ℤ fibStep prev (above - 1)) <ℤ (fibStep prev above -ℤ target) → Before (distance prev target) (above - 1) above
+    below-first h =
+        let nearer : distance prev target (above - 1) < distance prev target above = omega (zarith, leads) in
+        record { first = omega arith; second = (λ s. absurd (omega arith)) }
+
+    module _ (e : (fibStep prev above -ℤ target) ≡ (target -ℤ fibStep prev (above - 1))) where
+      as-near : distance prev target above ≡ distance prev target (above - 1)
       as-near = omega (zarith, leads)
 
-      pub pick-before : negsuc 127 <ℤ fibStep prev (above - 1) → above - 1 ≡ fibPick prev target
-      pick-before free = pick-is prev target (above - 1) record {
-        within = omega (arith, two .within);
-        least = of-all (above - 1) (omega arith) as-near;
-        first = (λ k l. falls-strictly prev target f k (above - 1) (omega (arith, two .within)) (omega (zarith, two .past)) l free);
+      upper-first : above ≤ 8 → Before (distance prev target) above (above - 1)
+      upper-first h = record {
+        first = omega (arith, as-near);
+        second = (λ s. size-falls (above - 1) above (omega (arith, two .some)) (two .within) (omega (zarith, delta-no-lower above 8 h (omega arith), delta-middle)));
       }
 
-      pub pick-held : fibStep prev (above - 1) ≤ℤ negsuc 127 → 0 ≡ fibPick prev target
-      pick-held held =
-          let lowest : fibStep prev 0 ≡ fibStep prev (above - 1) = omega (zarith, known (step-fits prev 0), step-rises prev 0 (above - 1) (omega arith) (omega (arith, two .within))) in
-          let same = same-step prev target 0 (above - 1) lowest in
-          pick-is prev target 0 record {
-            within = omega arith;
-            least = of-all 0 (omega arith) (omega (arith, as-near));
-            first = (λ k l. absurd (not-suc-le-zero l));
-          }
+      lower-first : 8 < above → Before (distance prev target) (above - 1) above
+      lower-first h = record {
+        first = omega (arith, as-near);
+        second = (λ s. size-rises (above - 1) above (omega (arith, two .some)) (two .within) (omega (zarith, delta-no-lower 8 (above - 1) (omega arith) (omega (arith, two .within)), delta-middle)));
+      }
+
+    between-alone : Alone (distance prev target) (fibPick prev target)
+    between-alone = go (ltZ over under) (ltZ under over) (ltb 8 above) refl refl refl
+      where
+        over : ℤ
+        over = fibStep prev above -ℤ target
+
+        under : ℤ
+        under = target -ℤ fibStep prev (above - 1)
+
+        go : (t u v : Bool) → ltZ over under ≡ t → ltZ under over ≡ u → ltb 8 above ≡ v → Alone (distance prev target) (fibPick prev target)
+        go true u v p q r = picked prev target above (above-alone (above-first (omega zarith)))
+        go false true v p q r = picked prev target (above - 1) (below-alone (below-first (omega zarith)))
+        go false false true p q r = picked prev target (above - 1) (below-alone (lower-first (omega zarith) (ltb-true 8 above r)))
+        go false false false p q r = picked prev target above (above-alone (upper-first (omega zarith) (ltb-false 8 above r)))
+
+    -- the one that is picked, by which leads nearer
+    pub record OfTwo : Type 0 where
+      pub above-nearer : (fibStep prev above -ℤ target) <ℤ (target -ℤ fibStep prev (above - 1)) → above ≡ fibPick prev target
+      pub below-nearer : (target -ℤ fibStep prev (above - 1)) <ℤ (fibStep prev above -ℤ target) → above - 1 ≡ fibPick prev target
+      pub as-near-falling : (fibStep prev above -ℤ target) ≡ (target -ℤ fibStep prev (above - 1)) → above ≤ 8 → above ≡ fibPick prev target
+      pub as-near-rising : (fibStep prev above -ℤ target) ≡ (target -ℤ fibStep prev (above - 1)) → 8 < above → above - 1 ≡ fibPick prev target
+
+    pub pick-of-two : OfTwo
+    pick-of-two = record {
+      above-nearer = (λ h. pick-is prev target above (above-alone (above-first h)));
+      below-nearer = (λ h. pick-is prev target (above - 1) (below-alone (below-first h)));
+      as-near-falling = (λ e h. pick-is prev target above (above-alone (upper-first e h)));
+      as-near-rising = (λ e h. pick-is prev target (above - 1) (below-alone (lower-first e h)));
+    }
 
 -- far enough from the ends the change alone decides
 pub pick-free : (prev target : ℤ) → negsuc 93 ≤ℤ prev → prev ≤ℤ pos 106 → nearestDelta (target -ℤ prev) ≡ fibPick prev target
 unfolding nearestDelta fibPick distance
-pick-free prev target l u = argmin-same _ _ 15 (λ k h. ap natAbs (same k h))
+pick-free prev target l u = nearest-same _ _ (λ k h. ap natAbs (same k h))
   where
-    same : (k : ℕ) → k ≤ 15 → getD deltas k (pos 0) -ℤ (target -ℤ prev) ≡ fibStep prev k -ℤ target
+    same : (k : ℕ) → k < 16 → getD deltas k (pos 0) -ℤ (target -ℤ prev) ≡ fibStep prev k -ℤ target
     same k h =
         let d = getD deltas k (pos 0) in
-        rw (step-free prev k l u (omega arith)) (omega (zarith, sum prev d .parts, diff target prev .parts, diff d (target -ℤ prev) .parts, diff (prev +ℤ d) target .parts))
+        rw (step-free prev k l u h) (omega (zarith, sum prev d .parts, diff target prev .parts, diff d (target -ℤ prev) .parts, diff (prev +ℤ d) target .parts))
 
 -- ---- the nearest delta, and that on the other side of the change
 
 module _ (change : ℤ) where
-  nearest-least : Least (λ (k : ℕ). natAbs (getD deltas k (pos 0) -ℤ change)) 15 (nearestDelta change)
+  delta-laws : Nearest (λ (k : ℕ). natAbs (getD deltas k (pos 0) -ℤ change)) (nearestDelta change)
   unfolding nearestDelta
-  nearest-least = argmin-least _ 15
+  delta-laws = nearest-laws _
 
   pub nearest-below : nearestDelta change < 16
-  nearest-below = omega (arith, nearest-least .within)
+  nearest-below = delta-laws .within
 
 -- a change past the nearest delta is not past the next
 pub next-between : (prev target : ℤ) → getD deltas (nearestDelta (target -ℤ prev)) (pos 0) <ℤ (target -ℤ prev) → (target -ℤ prev) ≤ℤ pos 21 → Between prev target (nearestDelta (target -ℤ prev) + 1)
@@ -204,8 +291,8 @@ next-between prev target past last = record { some = omega arith; within = more 
     go : (t : Bool) → ltZ next change ≡ t → change ≤ℤ next
     go true e =
         let rise = delta-rises m (m + 1) (omega arith) (more (ltb m 15) refl) in
-        let least = nearest-least change .least (m + 1) (omega (arith, more (ltb m 15) refl)) in
-        absurd (omega (zarith, least, apart-below change (getD deltas m (pos 0)) (omega zarith), apart-below change next (omega zarith)))
+        let near = delta-laws change .near (m + 1) (more (ltb m 15) refl) in
+        absurd (omega (zarith, near, apart-below change (getD deltas m (pos 0)) (omega zarith), apart-below change next (omega zarith)))
     go false e = omega zarith
 
 -- one that is not past it is past the one before
@@ -229,4 +316,30 @@ last-between prev target short first = record { some = some (ltb 0 m) refl; with
     go true e = omega zarith
     go false e =
         let rise = delta-rises (m - 1) m (omega (arith, some (ltb 0 m) refl)) (nearest-below change) in
-        absurd (omega (zarith, nearest-least change .least (m - 1) (omega (arith, nearest-below change)), apart-above change (getD deltas m (pos 0)) short, apart-above change last (omega zarith)))
+        absurd (omega (zarith, delta-laws change .near (m - 1) (omega (arith, nearest-below change)), apart-above change (getD deltas m (pos 0)) short, apart-above change last (omega zarith)))
+
+-- ---- no third test is needed: of the nibbles that are as near as the one picked no other has a delta as near to 0
+
+module _ (prev target : ℤ) (p : SFits w8 prev) (f : SFits w8 target) where
+  pick-alone : Alone (distance prev target) (fibPick prev target)
+  pick-alone = go (ltZ change (negsuc 32)) (ltZ (pos 20) change) (ltZ (getD deltas (nearestDelta change) (pos 0)) change) refl refl refl
+    where
+      change : ℤ
+      change = target -ℤ prev
+
+      go : (t u v : Bool) → ltZ change (negsuc 32) ≡ t → ltZ (pos 20) change ≡ u → ltZ (getD deltas (nearestDelta change) (pos 0)) change ≡ v → Alone (distance prev target) (fibPick prev target)
+      go true u v a b c = picked prev target 0 (first-alone prev target p f (omega zarith))
+      go false true v a b c = picked prev target 15 (last-alone prev target p f (omega zarith))
+      go false false true a b c = between-alone prev target p f (nearestDelta change + 1) (next-between prev target (omega zarith) (omega zarith))
+      go false false false a b c = between-alone prev target p f (nearestDelta change) (last-between prev target (omega zarith) (omega zarith))
+
+  pub pick-only : (k : ℕ) → k < 16 → distance prev target k ≡ distance prev target (fibPick prev target) → deltaSize k ≡ deltaSize (fibPick prev target) → k ≡ fibPick prev target
+  pick-only k h e s = go (ltb k m) (ltb m k) refl refl
+    where
+      m : ℕ
+      m = fibPick prev target
+
+      go : (t u : Bool) → ltb k m ≡ t → ltb m k ≡ u → k ≡ m
+      go true u a b = absurd (omega (arith, pick-alone .lower k (ltb-true k m a) .second (omega arith)))
+      go false true a b = absurd (omega (arith, pick-alone .higher k (ltb-true m k b) h .second (omega arith)))
+      go false false a b = omega (arith, ltb-false k m a, ltb-false m k b)

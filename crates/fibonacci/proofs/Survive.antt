@@ -59,7 +59,7 @@ step-reached : (s : ℤ) (k : ℕ) → fibStep s (fibPick s (fibStep s k)) ≡ f
 step-reached s k = go (ltb k 16) refl
   where
     go : (t : Bool) → ltb k 16 ≡ t → fibStep s (fibPick s (fibStep s k)) ≡ fibStep s k
-    go true e = pick-exact s k (omega (arith, ltb-true k 16 e))
+    go true e = pick-exact s k (ltb-true k 16 e)
     go false e = rw (step-past s k (ltb-false k 16 e)) (pick-exact s 8 (omega arith))
 
 running-reached : (s : ℤ) (ks : List ℕ) → running s (picks s (drop 1 (running s ks))) ≡ running s ks

@@ -1,15 +1,22 @@
 -- What the code's helpers ask and give; no reader of the meanings needs it.
+use mathlib.Core.Path.{_≡_}
+use mathlib.Core.List.{List}
 use Prim.Native.Nat.{ℕ, _-_, _≤_, _<_, _+_, _*_}
 use lib.IntN.{ℤ, pos, natAbs, _-ℤ_}
-use lib.ListN.{getD}
+use lib.ListN.{length, getD}
 use lib.Signed.{_≤ℤ_, _<ℤ_}
 use Rattle.fibonacci.specs.Step.{deltas, fibStep}
-use Rattle.fibonacci.specs.Pick.{argmin, fibPick}
+use Rattle.fibonacci.specs.Pick.{nearest, fibPick}
 use Rattle.fibonacci.specs.declared.encode.PackedPair.{PackedPair}
 
--- the lowest nibble whose delta is nearest to a change
+-- the nibble whose delta is nearest to a change
 unfoldable pub nearestDelta : ℤ → ℕ
-nearestDelta change = argmin (λ k. natAbs (getD deltas k (pos 0) -ℤ change)) 15
+nearestDelta change = nearest (λ k. natAbs (getD deltas k (pos 0) -ℤ change))
+
+-- the table that is lent to every choice: for each change from -33 to 21 the letter of that nibble, A for 0 to P for 15
+pub record NearestTable (table : List ℕ) : Type 0 where
+  pub changes : length table ≡ 55
+  pub letters : (k : ℕ) → k < 55 → getD table k 0 ≡ 65 + nearestDelta (pos k -ℤ pos 33)
 
 -- the change from `prev` to the target lies between the deltas of `above` and of the nibble before it
 pub record Between (prev target : ℤ) (above : ℕ) : Type 0 where

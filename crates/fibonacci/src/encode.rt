@@ -1,4 +1,5 @@
 // A channel written.
+use crate::pick::NEAREST;
 use crate::pick::fib_pick_nibble;
 use crate::step::fib_step;
 use refusal::Output;
@@ -8,7 +9,7 @@ ghost use lib.ListN.{length};
 ghost use Rattle.laws.specs.Buffer.{written};
 ghost use Rattle.refusal.specs.Outcome.{gives, answer, bufferAfter};
 ghost use Rattle.fibonacci.specs.Encode.{fibBytes};
-ghost use Rattle.fibonacci.specs.Helpers.{packedPair};
+ghost use Rattle.fibonacci.specs.Helpers.{NearestTable, packedPair};
 
 // Two nibbles in a byte, and the sample that the decoder has after them.
 struct PackedPair {
@@ -17,20 +18,21 @@ struct PackedPair {
 }
 
 // The byte for two samples that follow `prev`.
-fn pack_pair(prev: i8, a: i8, b: i8) -> PackedPair
+fn pack_pair(table: &[u8], prev: i8, a: i8, b: i8) -> PackedPair
+    requires { ⌜ NearestTable (now table) ⌝ }
     ensures { λ r. ⌜ r ≡ packedPair prev a b ⌝ }
 {
-    let high = fib_pick_nibble(prev, a);
+    let high = fib_pick_nibble(table, prev, a);
     let middle = fib_step(prev, high);
-    let low = fib_pick_nibble(middle, b);
+    let low = fib_pick_nibble(table, middle, b);
     let last = fib_step(middle, low);
     let byte = high * 16 + low;
     PackedPair { byte, last }
 }
 
 // The bytes of at least one sample, at the front of `out`.
-fn encode_samples(samples: &[i8], out: &mut [u8])
-    requires { ⌜ (1 ≤ length (now samples)) × (2 + length (now samples) / 2 ≤ length (now out)) ⌝ }
+fn encode_samples(table: &[u8], samples: &[i8], out: &mut [u8])
+    requires { ⌜ NearestTable (now table) × (1 ≤ length (now samples)) × (2 + length (now samples) / 2 ≤ length (now out)) ⌝ }
     ensures { λ _. ⌜ now (out .exit) ≡ written (fibBytes (now (samples .entry))) (now (out .entry)) ⌝ }
 {
     let n = samples.len();
@@ -42,7 +44,7 @@ fn encode_samples(samples: &[i8], out: &mut [u8])
     while j < pairs {
         let first = 2 * j + 1;
         let second = 2 * j + 2;
-        let p = pack_pair(prev, samples[first], samples[second]);
+        let p = pack_pair(table, prev, samples[first], samples[second]);
         let at = 2 + j;
         out[at] = p.byte;
         prev = p.last;
@@ -51,7 +53,7 @@ fn encode_samples(samples: &[i8], out: &mut [u8])
     if n % 2 == 0 {
         let last = n - 1;
         let at = 2 + pairs;
-        out[at] = fib_pick_nibble(prev, samples[last]) * 16 + 8;
+        out[at] = fib_pick_nibble(table, prev, samples[last]) * 16 + 8;
     }
 }
 
@@ -70,6 +72,6 @@ pub fn fibonacci_encode_channel(samples: &[i8], out: &mut [u8]) -> Output
         out[1] = 0;
         return Output::Length(length);
     }
-    encode_samples(samples, out);
+    encode_samples(&NEAREST, samples, out);
     Output::Length(length)
 }

@@ -16,10 +16,13 @@ pub fn fibonacci_decode_channel(body: &[u8]) -> Result<Vec<i8>, Refusal> {
 }
 
 /// A channel's samples, Fibonacci-coded. The coding isn't exact: a sample is as near as a step of at most 34 down or 21
-/// up from the one before can bring it.
+/// up from the one before can bring it. Of two steps that bring it as near the smaller is taken, up and down alike, so that
+/// quiet passages stay about the centre line.
 ///
 /// ```
-/// assert_eq!(svx::fibonacci_encode_channel(&[0, 4]), [0x00, 0x00, 0xB8]);
+/// let coded = svx::fibonacci_encode_channel(&[0, 4, 0, -4, 0]);
+/// assert_eq!(coded, [0x00, 0x00, 0xB5, 0x5B]);
+/// assert_eq!(svx::fibonacci_decode_channel(&coded), Ok(vec![0, 3, 0, -3, 0]));
 /// ```
 pub fn fibonacci_encode_channel(samples: &[i8]) -> Vec<u8> {
     let mut bytes = vec![0; samples.len() / 2 + 2];

@@ -26,11 +26,27 @@ fn fibonacci_decoded() {
 #[test]
 fn fibonacci_encoded() {
     assert_eq!(svx::fibonacci_encode_channel(&[0, 1]), [0x00, 0x00, 0x98]);
-    assert_eq!(svx::fibonacci_encode_channel(&[0, 4]), [0x00, 0x00, 0xB8]);
     assert_eq!(svx::fibonacci_encode_channel(&[0, 100, 100]), [0x00, 0x00, 0xFF]);
-    assert_eq!(svx::fibonacci_encode_channel(&[-128, -128]), [0x00, 0x80, 0x08]);
     assert_eq!(svx::fibonacci_encode_channel(&[127, 127]), [0x00, 0x7F, 0x88]);
     assert_eq!(svx::fibonacci_encode_channel(&[]), [0x00, 0x00]);
+}
+
+/// Of steps that lead as near the smallest is taken: midway between two deltas, and where several are held at an end.
+#[test]
+fn fibonacci_equal_distances() {
+    assert_eq!(svx::fibonacci_encode_channel(&[0, 4]), [0x00, 0x00, 0xB8]);
+    assert_eq!(svx::fibonacci_encode_channel(&[0, -4]), [0x00, 0x00, 0x58]);
+    assert_eq!(svx::fibonacci_encode_channel(&[0, 17]), [0x00, 0x00, 0xE8]);
+    assert_eq!(svx::fibonacci_encode_channel(&[0, -17]), [0x00, 0x00, 0x28]);
+    assert_eq!(svx::fibonacci_encode_channel(&[-128, -128]), [0x00, 0x80, 0x88]);
+    assert_eq!(svx::fibonacci_encode_channel(&[-120, -128]), [0x00, 0x88, 0x38]);
+    assert_eq!(svx::fibonacci_encode_channel(&[120, 126]), [0x00, 0x78, 0xC8]);
+    // A quiet tail and the same upside down are written as mirrors of each other.
+    let tail: Vec<i8> = (0..64).map(|i| if i % 2 == 0 { 0 } else { 4 }).collect();
+    let mirror: Vec<i8> = tail.iter().map(|s| -s).collect();
+    let decoded = |samples: &[i8]| svx::fibonacci_decode_channel(&svx::fibonacci_encode_channel(samples)).unwrap();
+    let (up, down) = (decoded(&tail), decoded(&mirror));
+    assert!(up.iter().zip(&down).all(|(a, b)| *a == -b));
 }
 
 #[test]

@@ -20,16 +20,16 @@ use Rattle.fibonacci.proofs.encode.encode_samples.Statement.{statement}
 use Rattle.fibonacci.proofs.encode.encode_samples.Tie as tie
 
 abbrev Inv-loop : tie.InvT-loop
-Inv-loop samples out₀ n prev₀ pairs j₀ out prev j =
+Inv-loop table samples out₀ n prev₀ pairs j₀ out prev j =
     (j ≤ pairs) × (length out ≡ length out₀) × (out ≡ take (2 + j) (fibBytes samples) ++ drop (2 + j) out₀) ×
     (packed (picks (toZ w8 prev) (drop (2 * j + 1) samples)) ≡ drop (2 + j) (fibBytes samples))
 
 abbrev μ-loop : tie.MeasureT-loop
-μ-loop samples out₀ n prev₀ pairs j₀ out prev j = pairs - j
+μ-loop table samples out₀ n prev₀ pairs j₀ out prev j = pairs - j
 
 -- the function's entry, the turn of the loop, and its end
 abbrev entry : tie.After-byte-of-sample Inv-loop μ-loop → tie.Start Inv-loop μ-loop
-entry c = c .before .before .before
+entry c = c .before .before .before .before
 
 abbrev turn : tie.After-pack-pair Inv-loop μ-loop → tie.At-loop Inv-loop μ-loop
 turn c = c .before .before .before .before
@@ -102,7 +102,7 @@ shared-slice-copy-out-pack-pair-2 : tie.Need-shared-slice-copy-out-pack-pair-2 I
 shared-slice-copy-out-pack-pair-2 c = omega arith
 
 pack-pair-requires : tie.Need-pack-pair-requires Inv-loop μ-loop
-pack-pair-requires c κs = tt
+pack-pair-requires c κs = search needs
 
 add-at : tie.Need-add-at Inv-loop μ-loop
 add-at c = omega arith
@@ -140,7 +140,7 @@ shared-slice-copy-out-fib-pick-nibble :
 shared-slice-copy-out-fib-pick-nibble c = omega arith
 
 fib-pick-nibble-requires : tie.Need-fib-pick-nibble-requires Inv-loop μ-loop
-fib-pick-nibble-requires c κs = tt
+fib-pick-nibble-requires c κs = search needs
 
 below : (c : tie.After-fib-pick-nibble Inv-loop μ-loop) → c .fib-pick-nibble .result < 16
 below c = rw (c .fib-pick-nibble .ensures) (pick-below _ _)

@@ -3,7 +3,11 @@
 use mathlib.Core.Path.{sym}
 use native.Mathlib.Omega.{arith}
 use lib.ListN.{length-set}
+use Rattle.fibonacci.specs.Step.{deltas}
+use Rattle.fibonacci.specs.Pick.{less, argmin, deltaSize, nearest}
 use Rattle.fibonacci.specs.Encode.{fibBytes}
+use Rattle.fibonacci.specs.Helpers.{nearestDelta}
+use Rattle.fibonacci.proofs.TableLaws.{table-right}
 use Rattle.fibonacci.proofs.EncodeLaws.{bytes-length, none-stored}
 use Rattle.refusal.proofs.OutcomeLaws.{output-fits, output-short}
 use borrow.Author.Needs.{needs}
@@ -15,7 +19,7 @@ entry c = c .before .before .before
 
 -- where the buffer is long enough
 abbrev fitting : tie.After-slice-known2 → tie.Else1
-fitting c = c .before .before .before .before .before
+fitting c = c .before .before .before .before .before .before
 
 add-length : tie.Need-add-length
 add-length c = search needs
@@ -39,8 +43,13 @@ returns-2 c =
     let a = entry c .args in
     output-fits (fibBytes (a .samples .now)) (a .out .now) _ (sym (bytes-length (a .samples .now))) _ (c .before .if1 .left) (none-stored (a .samples .now) (a .out .now) (c .if2 .taken) (omega arith))
 
+slice-aggregate-encode-samples : tie.Need-slice-aggregate-encode-samples
+slice-aggregate-encode-samples c = search needs
+
+-- antt computes the letters for all 55 changes and finds those of the code
 encode-samples-requires : tie.Need-encode-samples-requires
-encode-samples-requires c κs = search needs
+unfolding nearestDelta nearest argmin less deltaSize deltas
+encode-samples-requires c κs = (table-right, omega arith, omega arith)
 
 same-length-2 : tie.Need-same-length-2
 same-length-2 c = search needs
@@ -60,6 +69,7 @@ fibonacci-encode-channel-spec =
     slice-write-out-2
     same-length
     returns-2
+    slice-aggregate-encode-samples
     encode-samples-requires
     same-length-2
     returns-3)

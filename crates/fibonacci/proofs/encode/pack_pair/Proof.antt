@@ -39,7 +39,7 @@ add-byte c = omega (arith, high-below (high-picked c), low-below (c .before))
 
 returns : tie.Need-returns
 returns c =
-    let start = high-picked c .before in
+    let start = high-picked c .before .before in
     let middle = c .before .before in
     rw (
       back w8 (c .fib-step2 .ok),

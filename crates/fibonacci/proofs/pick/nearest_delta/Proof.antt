@@ -1,31 +1,16 @@
--- The letters are those of the lowest nearest nibbles: antt computes each of the 55.
+-- The letter that the table has for the change.
 -- Assumes nothing.
-use mathlib.Core.Path.{_≡_, refl, _∙_, ap}
-use mathlib.Core.List.{List, [], _∷_}
-use Prim.Native.Nat.{ℕ, zero, suc, _+_, _-_, _≤_, _<_}
-use native.Mathlib.Nat.{not-suc-le-zero, le-of-suc-le-suc}
+use mathlib.Core.Path.{_≡_, _∙_, ap}
+use Prim.Native.Nat.{ℕ, _+_, _-_, _<_}
 use native.Mathlib.Omega.{arith}
 use lib.IntN.{ℤ, pos, natAbs, _+ℤ_, _-ℤ_}
-use lib.ListN.{getD}
 use mir.Syntax.{w16}
 use mir.Val.{SFits, toZ, ofZ}
 use mir.Facts.{toZ-ofZ}
 use Rattle.laws.proofs.Signed.{zarith, known, sum, diff, abs-parts}
-use Rattle.fibonacci.specs.Step.{deltas}
-use Rattle.fibonacci.specs.Pick.{argmin}
 use Rattle.fibonacci.specs.Helpers.{nearestDelta}
 use Rattle.fibonacci.proofs.pick.nearest_delta.Statement.{statement}
 use Rattle.fibonacci.proofs.pick.nearest_delta.Tie as tie
-
--- the values of f at 0 to n - 1
-abbrev tabulated : (ℕ → ℕ) → ℕ → List ℕ
-tabulated f zero = []
-tabulated f (suc n) = f zero ∷ tabulated (λ k. f (suc k)) n
-
-tabulated-at : (f : ℕ → ℕ) (n k : ℕ) → k < n → getD (tabulated f n) k 0 ≡ f k
-tabulated-at f zero k h = absurd (not-suc-le-zero h)
-tabulated-at f (suc n) zero h = refl
-tabulated-at f (suc n) (suc k) h = tabulated-at (λ m. f (suc m)) n k (le-of-suc-le-suc h)
 
 module _ (s : tie.Start) where
   -- the change past -33, as the code has it
@@ -43,32 +28,26 @@ module _ (s : tie.Start) where
       let p = s .args .change +ℤ pos 33 in
       rw past-is (omega (zarith, s .pre, sum (s .args .change) (pos 33), abs-parts p, diff (pos (natAbs p)) (pos 33)))
 
+  place-within : natAbs past < 55
+  place-within = rw past-is (omega (zarith, s .pre, sum (s .args .change) (pos 33), abs-parts (s .args .change +ℤ pos 33)))
+
 add-past : tie.Need-add-past
 add-past c = rw (toZ-ofZ (c .fits .change)) (past-fits c)
 
 cast-i : tie.Need-cast-i
 cast-i c = rw (past-is c) (omega (zarith, c .pre, sum (c .args .change) (pos 33), abs-parts (c .args .change +ℤ pos 33)))
 
-array-read-letter : tie.Need-array-read-letter
-array-read-letter c = rw (past-is c) (omega (zarith, c .pre, sum (c .args .change) (pos 33), abs-parts (c .args .change +ℤ pos 33)))
+shared-slice-read-letter : tie.Need-shared-slice-read-letter
+shared-slice-read-letter c = omega (arith, place-within (c .before), c .before .pre .0 .changes)
 
--- the letter of a change stands so far past A
-abbrev letter : ℤ → ℕ
-letter change = 65 + nearestDelta change
-
-letter-is : (c : tie.Start) → getD (tabulated (λ k. letter (pos k -ℤ pos 33)) 55) (natAbs (past c)) 0 ≡ letter (c .args .change)
-letter-is c = tabulated-at (λ k. letter (pos k -ℤ pos 33)) 55 _ (array-read-letter c) ∙ ap letter (change-is c)
-
-past-a : (x n : ℕ) → x ≡ 65 + n → (65 ≤ x) × (x - 65 ≡ n)
-past-a x n e = (omega arith, omega arith)
+past-a : (x n : ℕ) → x ≡ 65 + n → x - 65 ≡ n
+past-a x n e = omega arith
 
 sub-result : tie.Need-sub-result
-unfolding nearestDelta argmin deltas
-sub-result c = past-a _ _ (letter-is c) .0
+sub-result c = omega (arith, c .before .pre .0 .letters _ (place-within (c .before)))
 
 returns : tie.Need-returns
-unfolding nearestDelta argmin deltas
-returns c = past-a _ _ (letter-is c) .1
+returns c = past-a _ _ (c .before .pre .0 .letters _ (place-within (c .before))) ∙ ap nearestDelta (change-is (c .before))
 
 pub nearest-delta-spec : {M : Type 1} → statement M
-nearest-delta-spec = tie.close (tie.spec add-past cast-i array-read-letter sub-result returns)
+nearest-delta-spec = tie.close (tie.spec add-past cast-i shared-slice-read-letter sub-result returns)

@@ -1,15 +1,17 @@
--- The nearer of the two, the lower where they are as near, and nibble 0 where that is held at -128.
+-- The nearer of the two, and where they are as near the one whose delta is nearer to 0.
 -- Assumes nothing.
 use mathlib.Core.Path.{_≡_, _∙_}
+use mathlib.Core.Logic.{⊎-elim}
 use Prim.Native.Nat.{_-_}
 use native.Mathlib.Omega.{arith}
+use borrow.Author.Tests.{ltb-true, ltb-false}
 use lib.IntN.{_-ℤ_}
 use mir.Syntax.{w8, w16}
 use mir.Val.{toZ, ofZ}
 use mir.Facts.{toZ-ofZ}
 use Rattle.laws.proofs.Signed.{zarith, back}
 use Rattle.fibonacci.specs.Step.{fibStep}
-use Rattle.fibonacci.proofs.PickLaws.{pick-above, pick-before, pick-held}
+use Rattle.fibonacci.proofs.PickLaws.{OfTwo, pick-of-two}
 use Rattle.fibonacci.proofs.pick.pick_of_two.Statement.{statement}
 use Rattle.fibonacci.proofs.pick.pick_of_two.Tie as tie
 
@@ -18,6 +20,9 @@ stepped c = c .before .before .before
 
 abbrev entry : tie.After-difference2 → tie.Start
 entry c = stepped c .before
+
+abbrev judged : tie.Else3 → tie.After-difference2
+judged c = c .before .before .before
 
 sub-below : tie.Need-sub-below
 sub-below c = omega (arith, c .pre .some)
@@ -52,22 +57,29 @@ module _ (c : tie.After-difference2) where
   under-is : toZ w16 (ofZ w16 (c .difference2 .result)) ≡ entry c .args .target -ℤ fibStep (entry c .args .prev) (entry c .args .above - 1)
   under-is = back w16 (c .difference2 .ok) ∙ rw (low-is, toZ-ofZ (entry c .fits .target)) at (c .difference2 .ensures)
 
+-- what is picked, by which of the two is nearer
+module _ (s : tie.Start) where
+  two : OfTwo (s .args .prev) (s .args .target) (s .fits .prev) (s .fits .target) (s .args .above) (s .pre)
+  two = pick-of-two (s .args .prev) (s .args .target) (s .fits .prev) (s .fits .target) (s .args .above) (s .pre)
+
 returns : tie.Need-returns
-returns c =
-    let s = entry (c .before) in
-    pick-above (s .args .prev) (s .args .target) (s .fits .target) (s .args .above) (s .pre) (omega (zarith, over-is (c .before), under-is (c .before), c .if1 .taken))
+returns c = two (entry (c .before)) .above-nearer (omega (zarith, over-is (c .before), under-is (c .before), c .if1 .taken))
 
 returns-2 : tie.Need-returns-2
 returns-2 c =
     let d = c .before .before in
-    let s = entry d in
-    pick-before (s .args .prev) (s .args .target) (s .fits .target) (s .args .above) (s .pre) (omega (zarith, over-is d, under-is d, c .before .if1 .left)) (omega (zarith, low-is d, c .if2 .taken))
+    ⊎-elim
+    (λ q. two (entry d) .below-nearer (omega (zarith, over-is d, under-is d, q .taken)))
+    (λ q.
+    let rising = ltb-true _ (entry d .args .above) (q .1 .taken) in
+    two (entry d) .as-near-rising (omega (zarith, over-is d, under-is d, c .before .if1 .left, q .0 .left)) (omega arith))
+    (c .if2 .came)
 
 returns-3 : tie.Need-returns-3
 returns-3 c =
-    let d = c .before .before in
-    let s = entry d in
-    pick-held (s .args .prev) (s .args .target) (s .fits .target) (s .args .above) (s .pre) (omega (zarith, over-is d, under-is d, c .before .if1 .left)) (omega (zarith, low-is d, c .if2 .left))
+    let d = judged c in
+    let falling = ltb-false _ (entry d .args .above) (c .if3 .left) in
+    two (entry d) .as-near-falling (omega (zarith, over-is d, under-is d, c .before .before .if1 .left, c .before .if2 .left)) (omega arith)
 
 pub pick-of-two-spec : {M : Type 1} → statement M
 pick-of-two-spec =
