@@ -31,7 +31,7 @@ pub fn channel(samples: &[i8]) -> Channel {
 /// How many channels met no tie, how many did, and at how many samples.
 #[derive(Default)]
 pub struct Count {
-    pub untied: u64,
+    untied: u64,
     pub tied: u64,
     ties: u64,
 }

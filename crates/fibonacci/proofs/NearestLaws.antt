@@ -43,6 +43,12 @@ module _ (away : ℕ → ℕ) where
   abbrev pub Before : ℕ → ℕ → Type 0
   Before a b = Less (key a) (key b)
 
+  pub nearer-before : (a b : ℕ) → away a < away b → Before a b
+  nearer-before a b h = record { first = omega arith; second = (λ s. absurd (omega arith)) }
+
+  pub smaller-before : (a b : ℕ) → away a ≤ away b → deltaSize a < deltaSize b → Before a b
+  smaller-before a b n h = record { first = n; second = (λ s. h) }
+
   -- a nibble that comes before each other one
   pub record Alone (m : ℕ) : Type 0 where
     pub within : m < 16

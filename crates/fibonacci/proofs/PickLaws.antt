@@ -20,7 +20,7 @@ use Rattle.fibonacci.specs.Helpers.{nearestDelta, Between}
 use Rattle.fibonacci.proofs.StepLaws.{delta-rises, delta-no-lower, delta-first, delta-middle, delta-last, size-falls, size-rises}
 use Rattle.fibonacci.proofs.StepLaws.{step-lowest, step-highest, step-free, step-rises, step-short, step-over, step-lower, step-higher}
 use Rattle.fibonacci.proofs.Least.{less-weak, less-then}
-use Rattle.fibonacci.proofs.NearestLaws.{Before, Nearest, nearest-laws, Alone, alone-is, nearest-same}
+use Rattle.fibonacci.proofs.NearestLaws.{Nearest, nearest-laws, Before, nearer-before, smaller-before, Alone, alone-is, nearest-same}
 
 -- ---- the choice
 
@@ -36,12 +36,9 @@ pick-is prev target m a = alone-is (distance prev target) m a
 pub pick-untied : (prev target : ℤ) (m : ℕ) → m < 16 → ((k : ℕ) → k < 16 → (k ≡ m → ⊥) → distance prev target m < distance prev target k) → m ≡ fibPick prev target
 pick-untied prev target m w nearer = pick-is prev target m record {
   within = w;
-  lower = (λ k h. first k (omega arith) (λ e. omega arith));
-  higher = (λ k h l. first k l (λ e. omega arith));
+  lower = (λ k h. nearer-before (distance prev target) m k (nearer k (omega arith) (λ e. omega arith)));
+  higher = (λ k h l. nearer-before (distance prev target) m k (nearer k l (λ e. omega arith)));
 }
-  where
-    first : (k : ℕ) → k < 16 → (k ≡ m → ⊥) → Before (distance prev target) m k
-    first k l other = record { first = omega (arith, nearer k l other); second = (λ e. absurd (omega (arith, nearer k l other))) }
 
 -- a nibble that comes before each other one is picked
 picked : (prev target : ℤ) (m : ℕ) → Alone (distance prev target) m → Alone (distance prev target) (fibPick prev target)
@@ -192,31 +189,32 @@ module _ (prev target : ℤ) (p : SFits w8 prev) (f : SFits w8 target) where
       under-parts = diff target (fibStep prev (above - 1));
     }
 
-    above-first : (fibStep prev above -ℤ target) <ℤ (target -ℤ fibStep prev (above - 1)) → Before (distance prev target) above (above - 1)
-    above-first h =
-        let nearer : distance prev target above < distance prev target (above - 1) = omega (zarith, leads) in
-        record { first = omega arith; second = (λ s. absurd (omega arith)) }
+    -- which of the two comes before all others, by which leads nearer
+    pub record OfTwo : Type 0 where
+      pub above-nearer : (fibStep prev above -ℤ target) <ℤ (target -ℤ fibStep prev (above - 1)) → Alone (distance prev target) above
+      pub below-nearer : (target -ℤ fibStep prev (above - 1)) <ℤ (fibStep prev above -ℤ target) → Alone (distance prev target) (above - 1)
+      pub as-near-falling : (fibStep prev above -ℤ target) ≡ (target -ℤ fibStep prev (above - 1)) → above ≤ 8 → Alone (distance prev target) above
+      pub as-near-rising : (fibStep prev above -ℤ target) ≡ (target -ℤ fibStep prev (above - 1)) → 8 < above → Alone (distance prev target) (above - 1)
 
-    below-first : (target -ℤ fibStep prev (above - 1)) <ℤ (fibStep prev above -ℤ target) → Before (distance prev target) (above - 1) above
-    below-first h =
-        let nearer : distance prev target (above - 1) < distance prev target above = omega (zarith, leads) in
-        record { first = omega arith; second = (λ s. absurd (omega arith)) }
+    pub of-two : OfTwo
+    of-two = record {
+      above-nearer = (λ h. above-alone (nearer-before away above (above - 1) (omega (zarith, leads))));
+      below-nearer = (λ h. below-alone (nearer-before away (above - 1) above (omega (zarith, leads))));
+      as-near-falling = (λ e h. above-alone (smaller-before away above (above - 1) (omega (zarith, leads)) (size-falls (above - 1) above one-up (two .within) (falling h))));
+      as-near-rising = (λ e h. below-alone (smaller-before away (above - 1) above (omega (zarith, leads)) (size-rises (above - 1) above one-up (two .within) (rising h))));
+    }
+      where
+        away : ℕ → ℕ
+        away = distance prev target
 
-    module _ (e : (fibStep prev above -ℤ target) ≡ (target -ℤ fibStep prev (above - 1))) where
-      as-near : distance prev target above ≡ distance prev target (above - 1)
-      as-near = omega (zarith, leads)
+        one-up : above - 1 < above
+        one-up = omega (arith, two .some)
 
-      upper-first : above ≤ 8 → Before (distance prev target) above (above - 1)
-      upper-first h = record {
-        first = omega (arith, as-near);
-        second = (λ s. size-falls (above - 1) above (omega (arith, two .some)) (two .within) (omega (zarith, delta-no-lower above 8 h (omega arith), delta-middle)));
-      }
+        falling : above ≤ 8 → getD deltas above (pos 0) ≤ℤ pos 0
+        falling h = omega (zarith, delta-no-lower above 8 h (omega arith), delta-middle)
 
-      lower-first : 8 < above → Before (distance prev target) (above - 1) above
-      lower-first h = record {
-        first = omega (arith, as-near);
-        second = (λ s. size-rises (above - 1) above (omega (arith, two .some)) (two .within) (omega (zarith, delta-no-lower 8 (above - 1) (omega arith) (omega (arith, two .within)), delta-middle)));
-      }
+        rising : 8 < above → pos 0 ≤ℤ getD deltas (above - 1) (pos 0)
+        rising h = omega (zarith, delta-no-lower 8 (above - 1) (omega arith) (omega (arith, two .within)), delta-middle)
 
     between-alone : Alone (distance prev target) (fibPick prev target)
     between-alone = go (ltZ over under) (ltZ under over) (ltb 8 above) refl refl refl
@@ -228,25 +226,10 @@ module _ (prev target : ℤ) (p : SFits w8 prev) (f : SFits w8 target) where
         under = target -ℤ fibStep prev (above - 1)
 
         go : (t u v : Bool) → ltZ over under ≡ t → ltZ under over ≡ u → ltb 8 above ≡ v → Alone (distance prev target) (fibPick prev target)
-        go true u v p q r = picked prev target above (above-alone (above-first (omega zarith)))
-        go false true v p q r = picked prev target (above - 1) (below-alone (below-first (omega zarith)))
-        go false false true p q r = picked prev target (above - 1) (below-alone (lower-first (omega zarith) (ltb-true 8 above r)))
-        go false false false p q r = picked prev target above (above-alone (upper-first (omega zarith) (ltb-false 8 above r)))
-
-    -- the one that is picked, by which leads nearer
-    pub record OfTwo : Type 0 where
-      pub above-nearer : (fibStep prev above -ℤ target) <ℤ (target -ℤ fibStep prev (above - 1)) → above ≡ fibPick prev target
-      pub below-nearer : (target -ℤ fibStep prev (above - 1)) <ℤ (fibStep prev above -ℤ target) → above - 1 ≡ fibPick prev target
-      pub as-near-falling : (fibStep prev above -ℤ target) ≡ (target -ℤ fibStep prev (above - 1)) → above ≤ 8 → above ≡ fibPick prev target
-      pub as-near-rising : (fibStep prev above -ℤ target) ≡ (target -ℤ fibStep prev (above - 1)) → 8 < above → above - 1 ≡ fibPick prev target
-
-    pub pick-of-two : OfTwo
-    pick-of-two = record {
-      above-nearer = (λ h. pick-is prev target above (above-alone (above-first h)));
-      below-nearer = (λ h. pick-is prev target (above - 1) (below-alone (below-first h)));
-      as-near-falling = (λ e h. pick-is prev target above (above-alone (upper-first e h)));
-      as-near-rising = (λ e h. pick-is prev target (above - 1) (below-alone (lower-first e h)));
-    }
+        go true u v p q r = picked prev target above (of-two .above-nearer (omega zarith))
+        go false true v p q r = picked prev target (above - 1) (of-two .below-nearer (omega zarith))
+        go false false true p q r = picked prev target (above - 1) (of-two .as-near-rising (omega zarith) (ltb-true 8 above r))
+        go false false false p q r = picked prev target above (of-two .as-near-falling (omega zarith) (ltb-false 8 above r))
 
 -- far enough from the ends the change alone decides
 pub pick-free : (prev target : ℤ) → negsuc 93 ≤ℤ prev → prev ≤ℤ pos 106 → nearestDelta (target -ℤ prev) ≡ fibPick prev target

@@ -2,7 +2,7 @@
 -- Assumes nothing.
 use mathlib.Core.Path.{_≡_, refl, ap}
 use mathlib.Core.Logic.{⊎-elim}
-use Prim.Native.Nat.{ℕ, _-_, _≤_, _<_, min}
+use Prim.Native.Nat.{ℕ, _+_, _-_, _≤_, _<_, min}
 use native.Mathlib.Nat.{eq-or-lt-of-le}
 use native.Mathlib.Omega.{arith}
 use lib.IntN.{ℤ, pos, negsuc, _+ℤ_, _-ℤ_}
@@ -37,15 +37,22 @@ pub delta-last : getD deltas 15 (pos 0) ≡ pos 21
 unfolding deltas
 delta-last = refl
 
+-- a delta's size, by its parts
+record Size (k : ℕ) : Type 0 where
+  whole : deltaSize k ≡ up (getD deltas k (pos 0)) + dn (getD deltas k (pos 0))
+  one-is-zero : up (getD deltas k (pos 0)) - dn (getD deltas k (pos 0)) ≡ up (getD deltas k (pos 0))
+
+size : (k : ℕ) → Size k
+unfolding deltaSize
+size k = record { whole = abs-parts (getD deltas k (pos 0)); one-is-zero = apart (getD deltas k (pos 0)) }
+
 -- below 0 the higher of two nibbles has the delta nearer to 0, above 0 the lower one
 module _ (a b : ℕ) (h : a < b) (l : b < 16) where
   pub size-falls : getD deltas b (pos 0) ≤ℤ pos 0 → deltaSize b < deltaSize a
-  unfolding deltaSize
-  size-falls n = omega (zarith, delta-rises a b h l, abs-parts (getD deltas a (pos 0)), abs-parts (getD deltas b (pos 0)), apart (getD deltas a (pos 0)), apart (getD deltas b (pos 0)))
+  size-falls n = omega (zarith, delta-rises a b h l, size a, size b)
 
   pub size-rises : pos 0 ≤ℤ getD deltas a (pos 0) → deltaSize a < deltaSize b
-  unfolding deltaSize
-  size-rises p = omega (zarith, delta-rises a b h l, abs-parts (getD deltas a (pos 0)), abs-parts (getD deltas b (pos 0)), apart (getD deltas a (pos 0)), apart (getD deltas b (pos 0)))
+  size-rises p = omega (zarith, delta-rises a b h l, size a, size b)
 
 -- ---- a sum brought back into the range
 

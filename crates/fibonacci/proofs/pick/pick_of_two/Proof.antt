@@ -2,7 +2,7 @@
 -- Assumes nothing.
 use mathlib.Core.Path.{_≡_, _∙_}
 use mathlib.Core.Logic.{⊎-elim}
-use Prim.Native.Nat.{_-_}
+use Prim.Native.Nat.{ℕ, _-_}
 use native.Mathlib.Omega.{arith}
 use borrow.Author.Tests.{ltb-true, ltb-false}
 use lib.IntN.{_-ℤ_}
@@ -11,7 +11,9 @@ use mir.Val.{toZ, ofZ}
 use mir.Facts.{toZ-ofZ}
 use Rattle.laws.proofs.Signed.{zarith, back}
 use Rattle.fibonacci.specs.Step.{fibStep}
-use Rattle.fibonacci.proofs.PickLaws.{OfTwo, pick-of-two}
+use Rattle.fibonacci.specs.Pick.{distance, fibPick}
+use Rattle.fibonacci.proofs.PickLaws.{OfTwo, of-two, pick-is}
+use Rattle.fibonacci.proofs.NearestLaws.{Alone}
 use Rattle.fibonacci.proofs.pick.pick_of_two.Statement.{statement}
 use Rattle.fibonacci.proofs.pick.pick_of_two.Tie as tie
 
@@ -57,29 +59,37 @@ module _ (c : tie.After-difference2) where
   under-is : toZ w16 (ofZ w16 (c .difference2 .result)) ≡ entry c .args .target -ℤ fibStep (entry c .args .prev) (entry c .args .above - 1)
   under-is = back w16 (c .difference2 .ok) ∙ rw (low-is, toZ-ofZ (entry c .fits .target)) at (c .difference2 .ensures)
 
--- what is picked, by which of the two is nearer
+-- which of the two comes before all others, and that it is picked
 module _ (s : tie.Start) where
   two : OfTwo (s .args .prev) (s .args .target) (s .fits .prev) (s .fits .target) (s .args .above) (s .pre)
-  two = pick-of-two (s .args .prev) (s .args .target) (s .fits .prev) (s .fits .target) (s .args .above) (s .pre)
+  two = of-two (s .args .prev) (s .args .target) (s .fits .prev) (s .fits .target) (s .args .above) (s .pre)
+
+  picked : (m : ℕ) → Alone (distance (s .args .prev) (s .args .target)) m → m ≡ fibPick (s .args .prev) (s .args .target)
+  picked = pick-is (s .args .prev) (s .args .target)
 
 returns : tie.Need-returns
-returns c = two (entry (c .before)) .above-nearer (omega (zarith, over-is (c .before), under-is (c .before), c .if1 .taken))
+returns c =
+    let s = entry (c .before) in
+    picked s _ (two s .above-nearer (omega (zarith, over-is (c .before), under-is (c .before), c .if1 .taken)))
 
 returns-2 : tie.Need-returns-2
 returns-2 c =
     let d = c .before .before in
-    ⊎-elim
-    (λ q. two (entry d) .below-nearer (omega (zarith, over-is d, under-is d, q .taken)))
+    let s = entry d in
+    picked s _
+    (⊎-elim
+    (λ q. two s .below-nearer (omega (zarith, over-is d, under-is d, q .taken)))
     (λ q.
-    let rising = ltb-true _ (entry d .args .above) (q .1 .taken) in
-    two (entry d) .as-near-rising (omega (zarith, over-is d, under-is d, c .before .if1 .left, q .0 .left)) (omega arith))
-    (c .if2 .came)
+    let rising = ltb-true _ (s .args .above) (q .1 .taken) in
+    two s .as-near-rising (omega (zarith, over-is d, under-is d, c .before .if1 .left, q .0 .left)) (omega arith))
+    (c .if2 .came))
 
 returns-3 : tie.Need-returns-3
 returns-3 c =
     let d = judged c in
-    let falling = ltb-false _ (entry d .args .above) (c .if3 .left) in
-    two (entry d) .as-near-falling (omega (zarith, over-is d, under-is d, c .before .before .if1 .left, c .before .if2 .left)) (omega arith)
+    let s = entry d in
+    let falling = ltb-false _ (s .args .above) (c .if3 .left) in
+    picked s _ (two s .as-near-falling (omega (zarith, over-is d, under-is d, c .before .before .if1 .left, c .before .if2 .left)) (omega arith))
 
 pub pick-of-two-spec : {M : Type 1} → statement M
 pick-of-two-spec =
