@@ -87,7 +87,8 @@ uint32_t svx_octave_wave(const uint8_t *sheet, size_t sheet_len, const int8_t *l
                          size_t right_len, uint8_t octave, uint8_t *file, size_t file_len, uint64_t *length);
 
 /* Notes. A note is a value: each call takes it and gives the note after it, and what a host keeps of it is all there is to keep. The same
- * calls give the same frames, however the frames are cut into blocks. */
+ * calls give the same frames, however the frames are cut into blocks. Of a voice with one channel PAN says how much each side gets, where
+ * there is a PAN, else CHAN, else both get all of it; two channels have a side each, and their PAN isn't looked at. */
 
 /* step: 65,536 is one sample a frame; rate is the output's, in frames a second; frames is how many were filled. key_up is the frame of the
  * key-up, and 0 while the note is held: of a note handed in with released false it is ignored, and it comes back as 0, from every call. */

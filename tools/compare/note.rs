@@ -79,12 +79,16 @@ fn fresh(r: &mut make::Rng, octaves: u8) -> plain::Note {
     n
 }
 
-/// One note through a list of calls, in blocks of fewer than `most` frames; the numbers that turned fills back are counted.
-fn case(r: &mut make::Rng, most: u64, seen: &mut [u64; 64]) {
+/// What was met: fills by the number that turned them back, and notes whose pan overrules their channel.
+struct Seen { fills: [u64; 64], overruled: u64 }
+
+/// One note through a list of calls, in blocks of fewer than `most` frames.
+fn case(r: &mut make::Rng, most: u64, seen: &mut Seen) {
     let (v, left, right) = voice(r);
     let sheet = rust_side::flat(&v);
     assert_eq!(abi::sheet_judge(&sheet), 0);
     let sound = plain::sound(&v, &left, &right);
+    seen.overruled += sound.overruled() as u64;
     let mut want = fresh(r, v.header.ct_octave);
     let mut got = abi::note_start(want.octave, want.step, want.rate);
     assert_eq!(got.plain(), plain::start(want.octave, want.step, want.rate));
@@ -107,7 +111,7 @@ fn case(r: &mut make::Rng, most: u64, seen: &mut [u64; 64]) {
         assert_eq!(a, b, "fill of {places} places, {want:?} {v:?} {left:?} {right:?}");
         got = filled.note;
         assert_eq!(got.plain(), want, "the note after it {v:?}");
-        seen[number as usize] += 1;
+        seen.fills[number as usize] += 1;
     }
     // a damaged sheet is refused as judging it is, or is another voice's, and nothing is written where it is refused
     if r.once(4) {
@@ -121,15 +125,15 @@ fn case(r: &mut make::Rng, most: u64, seen: &mut [u64; 64]) {
         if filled.refusal != 0 {
             assert!(a.iter().all(|x| *x == 0x5A5A), "a refused fill wrote");
             assert_eq!((filled.sounding, filled.note.plain()), (0, got.plain()));
-            seen[filled.refusal as usize] += 1;
+            seen.fills[filled.refusal as usize] += 1;
         }
     }
 }
 
 pub fn run(n: u64, seed: u64, most: u64) {
     let mut r = make::Rng::new(seed);
-    let mut seen = [0u64; 64];
+    let mut seen = Seen { fills: [0; 64], overruled: 0 };
     for _ in 0..n { case(&mut r, most, &mut seen); }
-    println!("{n} notes, no difference; fills by refusal, 0 accepted:");
-    for (i, c) in seen.iter().enumerate().filter(|(_, c)| **c > 0) { println!("  {i:2} {c}"); }
+    println!("{n} notes, {} of them on voices whose pan overrules their channel, no difference; fills by refusal, 0 accepted:", seen.overruled);
+    for (i, c) in seen.fills.iter().enumerate().filter(|(_, c)| **c > 0) { println!("  {i:2} {c}"); }
 }

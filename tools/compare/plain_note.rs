@@ -99,15 +99,25 @@ impl Sound<'_> {
         }
     }
 
-    /// The shares of the left and the right side.
-    fn shares(&self) -> (i64, i64) {
+    /// The shares of the left and the right side that the channel alone gives.
+    fn channel_shares(&self) -> (i64, i64) {
         match self.v.channel {
             Some(ChannelAssignment::Left) => (65536, 0),
             Some(ChannelAssignment::Right) => (0, 65536),
-            Some(ChannelAssignment::Stereo) => (65536, 65536),
-            None => self.v.pan.map_or((65536, 65536), |p| { let l = p.position.clamp(0, 65536) as i64; (l, 65536 - l) }),
+            Some(ChannelAssignment::Stereo) | None => (65536, 65536),
         }
     }
+
+    /// Two channels have a side each; of one the pan decides where there is one, else the channel.
+    fn shares(&self) -> (i64, i64) {
+        match self.v.pan {
+            Some(p) if !self.stereo() => { let l = p.position.clamp(0, 65536) as i64; (l, 65536 - l) }
+            _ => self.channel_shares(),
+        }
+    }
+
+    /// That the pan gives other shares than a channel that names its side.
+    pub fn overruled(&self) -> bool { self.v.channel.is_some() && self.shares() != self.channel_shares() }
 
     pub fn fixed(&self, n: Note) -> Fixed {
         let (left, right) = self.shares();

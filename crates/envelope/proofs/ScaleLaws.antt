@@ -1,8 +1,8 @@
--- A scaled number is no larger than it was, and is the same where all of it is taken; a level on the way lies between the two.
+-- A scaled number is no larger than it was, and is the same exactly where all of it is taken, or it is 0; a level on the way lies between the two.
 -- Assumes nothing.
-use mathlib.Core.Path.{_≡_}
-use Prim.Native.Nat.{ℕ, _-_, _*_, _/_, _≤_, _<_}
-use native.Mathlib.Nat.{div-le-of-le-mul, mul-div-cancel, mul-le-mul-left, mul-le-mul-right}
+use mathlib.Core.Path.{_≡_, sym, ap, _∙_}
+use Prim.Native.Nat.{ℕ, suc, _-_, _*_, _/_, _≤_, _<_}
+use native.Mathlib.Nat.{div-le-of-le-mul, le-div-iff-mul-le, mul-div-cancel, mul-le-mul-left, mul-le-mul-right, zero-div}
 use native.Mathlib.Omega.{arith}
 use lib.IntN.{ℤ, pos, _-ℤ_, _*ℤ_}
 use lib.Signed.{quotZ}
@@ -43,6 +43,32 @@ scaled-whole x n d z e =
     let up-same : up (quotZ (x *ℤ pos d) (pos d)) ≡ up x = rw (q .above, times x d .above) (mul-div-cancel (up x) z) in
     let dn-same : dn (quotZ (x *ℤ pos d) (pos d)) ≡ dn x = rw (q .below, times x d .below) (mul-div-cancel (dn x) z) in
     rw e (eqZ x (quotZ (x *ℤ pos d) (pos d)) (omega arith))
+
+less : (a n d : ℕ) → n < d → a * n / d ≡ a → a ≡ 0
+less a n d h e =
+    let all : a * d ≤ a * n = le-div-iff-mul-le {k = d} {x = a} {y = a * n} (omega arith) .0 (omega (arith, e)) in
+    let more : a * suc n ≤ a * d = mul-le-mul-left a h in
+    omega arith
+
+-- less than all of it, only of 0
+pub scaled-less : (x : ℤ) (n d : ℕ) → n < d → scaledBy x n d ≡ x → x ≡ pos 0
+unfolding scaledBy
+scaled-less x n d h e =
+    let q = quot (x *ℤ pos n) d in
+    let t = times x n in
+    let up-none = less (up x) n d h (sym (q .above ∙ ap (λ a. a / d) (t .above)) ∙ ap up e) in
+    let dn-none = less (dn x) n d h (sym (q .below ∙ ap (λ a. a / d) (t .below)) ∙ ap dn e) in
+    eqZ x (pos 0) (omega arith)
+
+-- nothing is left of 0, and where nothing is taken
+pub scaled-nothing : (x : ℤ) (n d : ℕ) → up x * n ≡ 0 → dn x * n ≡ 0 → scaledBy x n d ≡ pos 0
+unfolding scaledBy
+scaled-nothing x n d e f =
+    let q = quot (x *ℤ pos n) d in
+    let t = times x n in
+    let up-none : up (quotZ (x *ℤ pos n) (pos d)) ≡ 0 = rw (q .above, t .above, e) (zero-div d) in
+    let dn-none : dn (quotZ (x *ℤ pos n) (pos d)) ≡ 0 = rw (q .below, t .below, f) (zero-div d) in
+    eqZ (quotZ (x *ℤ pos n) (pos d)) (pos 0) (omega arith)
 
 -- a product of a bounded number
 pub bounded : (a n b : ℕ) → a ≤ b → a * n ≤ b * n

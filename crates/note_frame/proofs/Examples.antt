@@ -1,11 +1,18 @@
 -- Worked examples, computed from the definitions.
 -- Assumes nothing.
+use Prim.Native.Nat.{ℕ}
 use mathlib.Core.Bool.{Bool, true, false}
+use mathlib.Core.Option.{Option, none, some}
 use mathlib.Core.Path.{_≡_, refl}
-use lib.IntN.{pos, negsuc}
+use lib.IntN.{ℤ, pos, negsuc}
+use Rattle.small_chunks.specs.Pan.{heldToUnity}
+use Rattle.small_chunks.specs.declared.channel.ChannelAssignment.the-variants.{Left, Right, Stereo}
+use Rattle.small_chunks.specs.declared.pan.Pan.{Pan}
 use Rattle.envelope.specs.Level.{scaledBy}
 use Rattle.note_frame.specs.declared.chain.Gains.{Gains}
 use Rattle.note_frame.specs.Gains.{fadedWith, beforeSides, valueWith}
+use Rattle.note_frame.specs.Shares.{sharesOf}
+use Rattle.note_frame.specs.declared.shares.Shares.{Shares}
 
 -- full volume and shares, one channel; with a fade, it goes from step 2 to step 6
 abbrev pub full : Bool → Gains
@@ -43,3 +50,50 @@ fade-begins = refl
 pub fade-ends : valueWith (full true) 65536 5 (pos 1) 65536 ≡ pos 64
 unfolding valueWith beforeSides fadedWith scaledBy
 fade-ends = refl
+
+-- ---- channel and pan
+
+-- a pan at a position
+abbrev pub at : ℤ → Option Pan
+at z = some (record { position = z })
+
+-- the shares of a voice, left and right
+abbrev pub sides : ℕ → ℕ → Shares
+sides l r = record { left = l; right = r }
+
+-- with CHAN 2 all but a pan of 65,536 or more changes them, and with CHAN 4 all but one of 0 or less; CHAN 6 has both in full with any;
+-- without a CHAN the pan decides; without a pan the CHAN does
+pub record Table : Type 0 where
+  pub left-at-65536 : sharesOf (some Left) (at (pos 65536)) ≡ sides 65536 0
+  pub left-past-it : sharesOf (some Left) (at (pos 70000)) ≡ sides 65536 0
+  pub left-below-it : sharesOf (some Left) (at (pos 65535)) ≡ sides 65535 1
+  pub left-at-0 : sharesOf (some Left) (at (pos 0)) ≡ sides 0 65536
+  pub right-at-0 : sharesOf (some Right) (at (pos 0)) ≡ sides 0 65536
+  pub right-below-0 : sharesOf (some Right) (at (negsuc 0)) ≡ sides 0 65536
+  pub right-above-0 : sharesOf (some Right) (at (pos 1)) ≡ sides 1 65535
+  pub right-at-65536 : sharesOf (some Right) (at (pos 65536)) ≡ sides 65536 0
+  pub two-at-0 : sharesOf (some Stereo) (at (pos 0)) ≡ sides 65536 65536
+  pub none-at-16384 : sharesOf none (at (pos 16384)) ≡ sides 16384 49152
+  pub left-unpanned : sharesOf (some Left) none ≡ sides 65536 0
+  pub right-unpanned : sharesOf (some Right) none ≡ sides 0 65536
+  pub two-unpanned : sharesOf (some Stereo) none ≡ sides 65536 65536
+  pub neither : sharesOf none none ≡ sides 65536 65536
+
+pub table : Table
+unfolding sharesOf heldToUnity
+table = record {
+  left-at-65536 = refl;
+  left-past-it = refl;
+  left-below-it = refl;
+  left-at-0 = refl;
+  right-at-0 = refl;
+  right-below-0 = refl;
+  right-above-0 = refl;
+  right-at-65536 = refl;
+  two-at-0 = refl;
+  none-at-16384 = refl;
+  left-unpanned = refl;
+  right-unpanned = refl;
+  two-unpanned = refl;
+  neither = refl;
+}

@@ -4,4 +4,5 @@ pub mod SharesLaws
 pub mod GainsLaws
 pub mod FrameLaws
 pub mod FramesLaws
+pub mod PanFirst
 pub mod Examples

@@ -2,4 +2,5 @@
 pub mod Shares
 pub mod Frame
 pub mod Frames
+pub mod PanFirst
 pub mod Gains

@@ -5,9 +5,9 @@ use crate::ffi;
 /// Which speakers a voice plays on (CHAN).
 #[derive(Clone, Copy, Debug, PartialEq, Eq)]
 pub enum ChannelAssignment {
-    /// One channel, played left (2).
+    /// One channel, played left (2) where no [`Pan`] says otherwise.
     Left,
-    /// One channel, played right (4).
+    /// One channel, played right (4) where no [`Pan`] says otherwise.
     Right,
     /// Two channels, left and right (6).
     Stereo,
@@ -48,6 +48,29 @@ impl ChannelAssignment {
 }
 
 /// Where between the speakers a voice of one channel plays (PAN).
+///
+/// It decides before the side of a [`ChannelAssignment`]. Two channels have a side each and don't look at it.
+///
+/// ```
+/// use svx::{ChannelAssignment, ChannelSamples, Note, Pan, Sheet, Voice, VoiceHeader};
+///
+/// # fn main() -> Result<(), svx::Refusal> {
+/// // One sample, 64, on the right side by its CHAN.
+/// let right = Voice {
+///     header: VoiceHeader { one_shot_hi_samples: 1, ..VoiceHeader::default() },
+///     channel: Some(ChannelAssignment::Right),
+///     channels: vec![ChannelSamples { octaves: vec![vec![64]] }],
+///     ..Voice::default()
+/// };
+/// let left = Voice { pan: Some(Pan { position: Pan::LEFT }), ..right.clone() };
+/// let mut frame = [0i16; 2];
+/// Note::start(0, 65_536, 44_100).fill(&Sheet::of(&right)?, &mut frame)?;
+/// assert_eq!(frame, [0, 16_384]);
+/// Note::start(0, 65_536, 44_100).fill(&Sheet::of(&left)?, &mut frame)?;
+/// assert_eq!(frame, [16_384, 0]);
+/// # Ok(())
+/// # }
+/// ```
 #[derive(Clone, Copy, Debug, PartialEq, Eq)]
 pub struct Pan {
     /// From [`Pan::RIGHT`] through [`Pan::CENTER`] to [`Pan::LEFT`]; what lies outside counts as the nearer end.

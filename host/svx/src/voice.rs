@@ -7,9 +7,9 @@ use crate::{ChannelAssignment, Envelope, Fade, Pan, Seqn, VoiceHeader};
 pub struct Voice {
     /// The header (VHDR).
     pub header: VoiceHeader,
-    /// Which speakers it plays on (CHAN); none is one channel.
+    /// Which speakers it plays on (CHAN); none is one channel, on both.
     pub channel: Option<ChannelAssignment>,
-    /// Where between the speakers one channel plays (PAN).
+    /// Where between the speakers one channel plays (PAN), whichever side CHAN names; see [`Pan`].
     pub pan: Option<Pan>,
     /// How the level moves from the start on (ATAK), in file order.
     pub attack: Vec<Envelope>,

@@ -232,6 +232,53 @@ fn sides_and_octaves() {
     assert_eq!(samples(&panned, 0), [64, 192, 128, 384]);
 }
 
+/// The first frame of a voice of one sample, 64: 16,384 in full. A second channel has -64.
+fn first_frame(channel: Option<ChannelAssignment>, position: Option<i32>) -> [i16; 2] {
+    let count = channel.map_or(1, |channel| channel.channel_count());
+    let sides = [64, -64].map(|sample| ChannelSamples {
+        octaves: vec![vec![sample]],
+    });
+    let voice = Voice {
+        header: header(1, 0, 1, 0),
+        channel,
+        pan: position.map(|position| Pan { position }),
+        channels: sides[..usize::from(count)].to_vec(),
+        ..Voice::default()
+    };
+    let (out, sounding, _) = play(&Sheet::of(&voice).unwrap(), GOOD, 1, 1);
+    assert_eq!(sounding, 1);
+    <[i16; 2]>::try_from(out).unwrap()
+}
+
+#[test]
+fn a_pan_comes_before_the_channel() {
+    let (left, right) = ([16_384, 0], [0, 16_384]);
+    let by_pan = [
+        (i32::MIN, right),
+        (-1, right),
+        (0, right),
+        (1, [0, 16_383]),
+        (16_384, [4_096, 12_288]),
+        (65_535, [16_383, 0]),
+        (65_536, left),
+        (65_537, left),
+        (i32::MAX, left),
+    ];
+    for (position, frame) in by_pan {
+        for channel in [None, Some(ChannelAssignment::Left), Some(ChannelAssignment::Right)] {
+            assert_eq!(first_frame(channel, Some(position)), frame, "{channel:?} {position}");
+        }
+        assert_eq!(
+            first_frame(Some(ChannelAssignment::Stereo), Some(position)),
+            [16_384, -16_384]
+        );
+    }
+    assert_eq!(first_frame(Some(ChannelAssignment::Left), None), left);
+    assert_eq!(first_frame(Some(ChannelAssignment::Right), None), right);
+    assert_eq!(first_frame(Some(ChannelAssignment::Stereo), None), [16_384, -16_384]);
+    assert_eq!(first_frame(None, None), [16_384, 16_384]);
+}
+
 #[test]
 fn every_part_plays() {
     let sheet = Sheet::of(&full_voice()).unwrap();

@@ -34,7 +34,7 @@ fn info(given: &Given) -> Result<u8, Failure> {
     for (key, text) in &voice.metadata {
         report.line(key, &escaped(text));
     }
-    report.line("channels", channels(&voice));
+    report.line("channels", &channels(&voice));
     octaves(&mut report, &voice);
     sound(&mut report, &voice);
     envelope(&mut report, "attack", &voice.attack, "none: full level from the start");
@@ -66,13 +66,19 @@ impl Report {
     }
 }
 
-fn channels(voice: &Voice) -> &'static str {
-    match (voice.channel, voice.pan) {
-        (Some(ChannelAssignment::Left), _) => "1, on the left side",
-        (Some(ChannelAssignment::Right), _) => "1, on the right side",
-        (Some(ChannelAssignment::Stereo), _) => "2, left and right",
-        (None, Some(_)) => "1, placed by its pan",
-        (None, None) => "1, on both sides",
+/// How many channels there are and where they are heard: of one the pan decides before CHAN.
+fn channels(voice: &Voice) -> String {
+    let side = match voice.channel {
+        Some(ChannelAssignment::Stereo) => return "2, left and right".to_string(),
+        Some(ChannelAssignment::Left) => Some("left"),
+        Some(ChannelAssignment::Right) => Some("right"),
+        None => None,
+    };
+    match (voice.pan, side) {
+        (Some(_), Some(side)) => format!("1, placed by its pan; CHAN, {side}, is not used"),
+        (Some(_), None) => "1, placed by its pan".to_string(),
+        (None, Some(side)) => format!("1, on the {side} side"),
+        (None, None) => "1, on both sides".to_string(),
     }
 }
 
@@ -131,8 +137,8 @@ fn pan(voice: &Voice) -> String {
         return "none".to_string();
     };
     let share = |weight: f32| percent((weight * 65_536.0) as i64);
-    let unused = if voice.channel.is_some() {
-        "; not used, since CHAN names the side"
+    let unused = if voice.channel == Some(ChannelAssignment::Stereo) {
+        "; not used, since two channels have a side each"
     } else {
         ""
     };

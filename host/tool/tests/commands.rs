@@ -422,6 +422,52 @@ fn info_tells_of_sides_and_sequences() {
 }
 
 #[test]
+fn info_tells_what_places_a_voice() {
+    let folder = Folder::new("placed");
+    let line = |out: &str, word: &str| {
+        let found = out.lines().find_map(|line| line.strip_prefix(word));
+        found.expect("a line of that word").trim_start().to_string()
+    };
+    let panned = |voice: Voice, channel| Voice {
+        channel,
+        pan: Some(Pan { position: 49_152 }),
+        ..voice
+    };
+    let unpanned = |channel| Voice {
+        channel,
+        pan: None,
+        ..looped()
+    };
+    let (left, right) = (Some(ChannelAssignment::Left), Some(ChannelAssignment::Right));
+    let two = Some(ChannelAssignment::Stereo);
+    let shares = "75% left, 25% right";
+    let two_shares = "75% left, 25% right; not used, since two channels have a side each";
+    for (voice, channels, pan) in [
+        (unpanned(None), "1, on both sides", "none"),
+        (unpanned(left), "1, on the left side", "none"),
+        (unpanned(right), "1, on the right side", "none"),
+        (panned(looped(), None), "1, placed by its pan", shares),
+        (
+            panned(looped(), left),
+            "1, placed by its pan; CHAN, left, is not used",
+            shares,
+        ),
+        (
+            panned(looped(), right),
+            "1, placed by its pan; CHAN, right, is not used",
+            shares,
+        ),
+        (panned(stereo(), two), "2, left and right", two_shares),
+    ] {
+        let out = run(&[&"info", &folder.voice("placed.8svx", &voice)]).well().out;
+        assert_eq!(
+            (line(&out, "channels:").as_str(), line(&out, "pan:").as_str()),
+            (channels, pan)
+        );
+    }
+}
+
+#[test]
 fn stem_writes_what_a_fill_gives() {
     let folder = Folder::new("stem");
     let (voice, note) = (looped(), Note::start(1, 50_000, 22_050));

@@ -1,6 +1,6 @@
--- `note_frame::shares::pan_shares` meets its contract: what is held within 65,536 may be taken from it.
+-- `note_frame::shares::pan_else` meets its contract: what is held within 65,536 may be taken from it.
 -- Assumes nothing.
-use mathlib.Core.Path.{_≡_, sym, ap, _∙_}
+use mathlib.Core.Path.{_≡_, ap, _∙_}
 use native.Mathlib.Omega.{arith}
 use mir.Syntax.{w32}
 use mir.Val.{SFits}
@@ -8,10 +8,8 @@ use mir.Facts.{toZ-ofZ}
 use borrow.Author.Needs.{needs}
 use Rattle.small_chunks.specs.Pan.{heldToUnity}
 use Rattle.small_chunks.proofs.PanLaws.{held-le}
-use Rattle.note_frame.specs.Gains.{panAnswered}
-use Rattle.note_frame.specs.Shares.{panShares}
-use Rattle.note_frame.proofs.shares.pan_shares.Statement.{statement}
-use Rattle.note_frame.proofs.shares.pan_shares.Tie as tie
+use Rattle.note_frame.proofs.shares.pan_else.Statement.{statement}
+use Rattle.note_frame.proofs.shares.pan_else.Tie as tie
 
 abbrev pan-known : tie.After-held-to-unity → tie.After-pan
 pan-known c = c .before .before .before
@@ -35,12 +33,12 @@ sub-right : tie.Need-sub-right
 sub-right c = omega (arith, said c, held-le (pan-known c .pan .given .0 .0 .position))
 
 returns : tie.Need-returns
-returns c = sym (ap (λ x. panShares (panAnswered x)) (c .enum-told .given .1))
+returns c = rw (c .enum-told .given .1)
 
 returns-2 : tie.Need-returns-2
 returns-2 c = simp (said c, pan-known c .pan .given .1)
 
-pub pan-shares-spec : {M : Type 1} → statement M
-pan-shares-spec =
+pub pan-else-spec : {M : Type 1} → statement M
+pan-else-spec =
     tie.close
     (tie.spec enum-told enum-known-pan held-to-unity-requires sub-right returns returns-2)
