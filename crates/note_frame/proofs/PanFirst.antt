@@ -53,17 +53,16 @@ alone none (some p) =
 
 -- ---- parts of a value
 
+full : (x : ℤ) → x ≡ scaledBy x 65536 65536
+full x = scaled-whole x 65536 65536 (omega arith) refl
+
 -- a part that is all of it
 part-whole : (x : ℤ) (a : ℕ) → a ≤ 65536 → scaledBy x a 65536 ≡ scaledBy x 65536 65536 → (a ≡ 65536) ⊎ (x ≡ pos 0)
 part-whole x a h e = go (ltb a 65536) refl
   where
     go : (t : Bool) → ltb a 65536 ≡ t → (a ≡ 65536) ⊎ (x ≡ pos 0)
-    go true f = inr (scaled-less x a 65536 (ltb-true a 65536 f) (e ∙ sym (scaled-whole x 65536 65536 (omega arith) refl)))
+    go true f = inr (scaled-less x a 65536 (ltb-true a 65536 f) (e ∙ sym (full x)))
     go false f = inl (omega (arith, ltb-false a 65536 f))
-
--- all of it, where that is nothing
-whole-none : (x : ℤ) → scaledBy x 65536 65536 ≡ pos 0 → x ≡ pos 0
-whole-none x e = scaled-whole x 65536 65536 (omega arith) refl ∙ e
 
 sides-same : {a b c d : ℤ} → a ≡ c → b ≡ d → _≡_ {A = Frame} (record { left = a; right = b; sounds = true }) (record { left = c; right = d; sounds = true })
 sides-same e e₂ = rw (e, e₂)
@@ -91,10 +90,10 @@ module _ (x : ℤ) where
 
   -- one side at least has all of it
   quiet-zero : (channel : Option ChannelAssignment) → Quiet (plain channel) → x ≡ pos 0
-  quiet-zero (some Left) q = whole-none x (q .0)
-  quiet-zero (some Right) q = whole-none x (q .1)
-  quiet-zero (some Stereo) q = whole-none x (q .0)
-  quiet-zero none q = whole-none x (q .0)
+  quiet-zero (some Left) q = full x ∙ q .0
+  quiet-zero (some Right) q = full x ∙ q .1
+  quiet-zero (some Stereo) q = full x ∙ q .0
+  quiet-zero none q = full x ∙ q .0
 
   stays : (channel : Option ChannelAssignment) (pan : Option Pan) → ChannelAlone channel pan ⊎ Quiet (plain channel) → shared x (sharesOf channel pan) ≡ plain channel
   stays channel pan (inl a) = ap (shared x) (alone channel pan .1 a)
@@ -140,7 +139,7 @@ module _ (v : Voice) (channel : Option ChannelAssignment) (pan : Option Pan) whe
   -- and so is the value in full, of which a side has its share
   value-routed : (k q level : ℕ) (sample : ℤ) (share : ℕ) → value (routed v channel pan) k q level sample share ≡ scaledBy (value v k q level sample 65536) share 65536
   unfolding value fadedAt
-  value-routed k q level sample share = ap (λ (x : ℤ). scaledBy x share 65536) (scaled-whole _ 65536 65536 (omega arith) refl)
+  value-routed k q level sample share = ap (λ (x : ℤ). scaledBy x share 65536) (full _)
 
   module _ (s : Sides) (k q i level : ℕ) where
     -- a frame that sounds
