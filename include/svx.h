@@ -37,6 +37,7 @@
  * 33  the output rate is 0 or above 192,000
  * 34  the key-up frame is later than the frames filled
  * 41  the voice's rate is 0
+ * 43  there is no crossing within reach
  * } refusals.txt
  */
 #ifndef SVX_H
@@ -196,6 +197,10 @@ float svx_volume_f32(uint32_t volume);
  * -128 counts as 128; which of equal places is free. */
 SvxPeak svx_peak(const int8_t *samples, size_t samples_len);
 
+/* The nearest place i to `place`, any number, where sample i - 1 is below 0 and sample i isn't, or the other way round; of two as near
+ * the earlier. Refused by 43 where none is at most `reach` away. */
+uint32_t svx_nearest_crossing(const int8_t *samples, size_t samples_len, uint64_t place, uint64_t reach, uint64_t *crossing);
+
 /* The level of an envelope t_ms milliseconds in, begun at `start`.
  * Points have 6 bytes as in ATAK; a remainder is ignored. */
 int32_t svx_level_at_ms(const uint8_t *points, size_t points_len, int32_t start, uint64_t t_ms);
@@ -253,6 +258,7 @@ static inline const char *svx_refusal_text(uint32_t number) {
     case 33: return "the output rate is 0 or above 192,000";
     case 34: return "the key-up frame is later than the frames filled";
     case 41: return "the voice's rate is 0";
+    case 43: return "there is no crossing within reach";
     /* } refusals.txt */
     default: return "unknown refusal";
     }

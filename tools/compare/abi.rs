@@ -98,6 +98,11 @@ pub fn frequency(rate: u16, per_cycle: u32) -> Frequency { unsafe { svx_hi_cycle
 pub fn pan_weights(position: i32) -> Pan { unsafe { svx_pan_weights(position) } }
 pub fn volume_f32(volume: u32) -> f32 { unsafe { svx_volume_f32(volume) } }
 pub fn peak(samples: &[i8]) -> Peak { unsafe { svx_peak(samples.as_ptr(), samples.len()) } }
+pub fn nearest_crossing(samples: &[i8], place: u64, reach: u64) -> Result<u64, u32> {
+    let mut i = UNSET;
+    let r = unsafe { svx_nearest_crossing(samples.as_ptr(), samples.len(), place, reach, &mut i) };
+    one(r, i).map(|i| i as u64)
+}
 pub fn level_at_ms(points: &[u8], start: i32, t: u64) -> i32 { unsafe { svx_level_at_ms(points.as_ptr(), points.len(), start, t) } }
 pub fn octave_samples(one_shot: u32, repeat: u32, octaves: u8, k: u8) -> Part { unsafe { svx_octave_samples(one_shot, repeat, octaves, k) } }
 pub fn loop_repeat(one_shot: u32, repeat: u32, octaves: u8, k: u8, octave_len: u64) -> Part {

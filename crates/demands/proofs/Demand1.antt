@@ -26,6 +26,7 @@ use Rattle.body_read.specs.Answers.{sideLengthsOf}
 use Rattle.body_read.specs.declared.lengths.SideLengths.the-variants as SideLengths
 use Rattle.fibonacci.specs.Decode.{fibChannel}
 use Rattle.fibonacci.specs.Encode.{fibBytes}
+use Rattle.crossing.proofs.NearestLaws.{nearest-none}
 use Rattle.body_decode.specs.Body.{decodedBody}
 use Rattle.note_frame.specs.declared.chain.Frame.{Frame}
 use Rattle.note.specs.Fill.{fillSheet, fillLeaves}
@@ -148,6 +149,7 @@ demand1 = record {
   fibonacci-encode-channel = λ samples. fills-or-keeps [] (gives (fibBytes samples)) tt;
   decode-raw = λ body. fills-or-keeps [] (gives (map sampleOf body)) tt;
   encode-raw = λ samples. fills-or-keeps [] (gives (map byteOf samples)) tt;
+  nearest-crossing = λ samples place reach n e. nearest-none samples place reach n e .0;
   side-lengths = λ h stereo body n. sides-number (bodySides h stereo body) n (sides-within h stereo body);
   header-parse = λ body n. by-either (ltb (length body) 20) _ _ _ (λ e. cc) (λ e. impossible cc);
   known-compression = refused-byte;

@@ -13,7 +13,7 @@ use lib.ListN.{length}
 use Rattle.refusal.specs.Numbers.{fileShort, notForm, not8svx, chunkPastForm, chunkTwice, chunkLength, channelValue, noHeader, noBody}
 use Rattle.refusal.specs.Numbers.{compression, oddHalves, channelShort, octaveTotal, samplesShort}
 use Rattle.refusal.specs.Numbers.{recordCut, recordWrong, textIllFormed, sampleLengths, formLength, bufferShort}
-use Rattle.refusal.specs.Numbers.{segment, sequenceOneShot, fadeSegment, sequenceLength, oddPlaces, noOctave, step, rate, keyUp, voiceRate}
+use Rattle.refusal.specs.Numbers.{segment, sequenceOneShot, fadeSegment, sequenceLength, oddPlaces, noOctave, step, rate, keyUp, voiceRate, noCrossing}
 use Rattle.refusal.specs.Outcome.{Outcome, gives, refuses, answer, lengthOf, bufferAfter}
 use Rattle.refusal.specs.declared.Output.the-variants as Output
 use Rattle.field.specs.Signed.{sampleOf, byteOf}
@@ -34,6 +34,8 @@ use Rattle.small_chunks.specs.declared.sequence.SeqnSegment.{SeqnSegment}
 use Rattle.small_chunks.specs.declared.sequence.Validity.the-variants as Validity
 use Rattle.fibonacci.specs.Decode.{fibChannel}
 use Rattle.fibonacci.specs.Encode.{fibBytes}
+use Rattle.crossing.specs.Crossing.{nearestCrossing}
+use Rattle.crossing.specs.declared.Crossing.the-variants as Crossing
 use Rattle.body_decode.specs.Body.{decodedBody}
 use Rattle.sheet.specs.Judge.{judged}
 use Rattle.sheet.specs.Record.{recordAt}
@@ -142,6 +144,8 @@ pub record Demand1 : Type 0 where
   pub decode-raw : (body : List ℕ) → FillsOrKeeps [] (gives (map sampleOf body))
   -- encode_raw is refused by 20 alone, and then its buffer is as it was
   pub encode-raw : (samples : List ℤ) → FillsOrKeeps [] (gives (map byteOf samples))
+  -- nearest_crossing is refused by 43 alone
+  pub nearest-crossing : (samples : List ℤ) (place reach n : ℕ) → nearestCrossing samples place reach ≡ Crossing.Refused n → n ≡ noCrossing
   -- side_lengths is refused by 10 to 14
   pub side-lengths : (h : VoiceHeader) (stereo : Bool) (body : List ℕ) (n : ℕ) → sideLengthsOf (bodySides h stereo body) ≡ SideLengths.Refused n → Among n sideNumbers
   -- VoiceHeader::parse is refused by 6 alone

@@ -1,5 +1,6 @@
 // Runs worked examples of the format's specification and prints what they give.
 mod codec;
+mod crossings;
 mod headers;
 mod sheets;
 mod texts;
@@ -11,4 +12,5 @@ fn main() {
     sheets::run();
     texts::run();
     waves::run();
+    crossings::run();
 }

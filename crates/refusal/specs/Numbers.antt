@@ -123,4 +123,8 @@ keyUp = 34
 abbrev pub voiceRate : ℕ
 voiceRate = 41
 
+-- there is no crossing within reach
+abbrev pub noCrossing : ℕ
+noCrossing = 43
+
 -- } refusals.txt

@@ -92,6 +92,9 @@ pub const KEY_UP: u8 = 34;
 // The voice's rate is 0.
 pub const VOICE_RATE: u8 = 41;
 
+// There is no crossing within reach.
+pub const NO_CROSSING: u8 = 43;
+
 // } refusals.txt
 
 // How much of a lent buffer was written, or why nothing was.

@@ -3,6 +3,8 @@ use Prim.Native.Nat.{ℕ}
 use mathlib.Core.List.{List, [], _∷_}
 use Rattle.refusal.specs.declared.Output.{Output}
 use Rattle.refusal.specs.declared.Output.the-variants as output
+use Rattle.crossing.specs.declared.Crossing.{Crossing}
+use Rattle.crossing.specs.declared.Crossing.the-variants as crossing
 use Rattle.sheet.specs.declared.judge.Judged.{Judged}
 use Rattle.sheet.specs.declared.judge.Judged.the-variants as judged
 use Rattle.voice_read.specs.declared.chunks.Parsed.{Parsed}
@@ -27,6 +29,16 @@ outputNumber (output.Refused number) = number
 abbrev pub outputLength : Output → ℕ → ℕ
 outputLength (output.Length n) before = n
 outputLength (output.Refused number) before = before
+
+-- the refusal of a search for a crossing, or 0
+abbrev pub crossingNumber : Crossing → ℕ
+crossingNumber (crossing.Found i) = 0
+crossingNumber (crossing.Refused number) = number
+
+-- the place that it found
+abbrev pub crossingPlace : Crossing → ℕ → ℕ
+crossingPlace (crossing.Found i) before = i
+crossingPlace (crossing.Refused number) before = before
 
 -- the refusal of a sheet, or 0
 abbrev pub judgedNumber : Judged → ℕ

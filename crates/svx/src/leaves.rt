@@ -1,14 +1,18 @@
-// Frequency, pan, volume, peak and level.
+// Frequency, pan, volume, peak, the nearest crossing, and level.
+use voice::Crossing;
 use voice::Frequency;
 use voice::Loudest;
 use voice::Pan;
 use voice::VoiceHeader;
+use voice::nearest_crossing;
 use voice::peak;
 ghost use mathlib.Core.Path.{_≡_};
+ghost use Rattle.crossing.specs.Crossing.{nearestCrossing};
 ghost use Rattle.envelope.specs.Envelope.{levelAt};
 ghost use Rattle.header.specs.Frequency.{cycleFrequency};
 ghost use Rattle.small_chunks.specs.Envelope.{envelopePoints};
 ghost use Rattle.header_volume.specs.Volume.{volumeFloat};
+ghost use Rattle.svx.specs.Answers.{crossingNumber, crossingPlace};
 ghost use Rattle.svx.specs.Shapes.{frequencyOf, weightsAt, PeakShape};
 
 // Where it isn't known, hertz is 0.
@@ -94,6 +98,25 @@ pub extern "C" fn svx_peak(samples: &[i8]) -> SvxPeak
             magnitude,
             place: place as u64,
         },
+    }
+}
+
+#[no_mangle]
+pub extern "C" fn svx_nearest_crossing(
+    samples: &[i8],
+    place: u64,
+    reach: u64,
+    found: &mut u64,
+) -> u32
+    ensures result { λ r. ⌜ r ≡ crossingNumber (nearestCrossing (now (samples .entry)) place reach) ⌝ }
+    ensures found { λ _. ⌜ now (found .exit) ≡ crossingPlace (nearestCrossing (now (samples .entry)) place reach) (now (found .entry)) ⌝ }
+{
+    match nearest_crossing(samples, place as usize, reach as usize) {
+        Crossing::Refused(number) => number as u32,
+        Crossing::Found(i) => {
+            *found = i as u64;
+            0
+        }
     }
 }
 

@@ -22,6 +22,7 @@ pub use leaves::SvxPan;
 pub use leaves::SvxPeak;
 pub use leaves::svx_hi_cycle_frequency_hz;
 pub use leaves::svx_level_at_ms;
+pub use leaves::svx_nearest_crossing;
 pub use leaves::svx_pan_weights;
 pub use leaves::svx_peak;
 pub use leaves::svx_volume_f32;

@@ -22,7 +22,9 @@ pub use sheet_records::new as new_reader;
 pub use sheet_records::next as peek_record;
 pub use sheet_records::read_step;
 
-// Samples: the parts of a voice's samples, and the loudest of them.
+// Samples: the parts of a voice's samples, the loudest of them, and where their sign changes.
+pub use crossing::Crossing;
+pub use crossing::nearest_crossing;
 pub use octaves::Part;
 pub use octaves::Side;
 pub use octaves::loop_one_shot;

@@ -160,6 +160,13 @@ extern "C" {
     pub fn svx_pan_weights(position: i32) -> Pan;
     pub fn svx_volume_f32(volume: u32) -> f32;
     pub fn svx_peak(samples: *const i8, samples_len: usize) -> Peak;
+    pub fn svx_nearest_crossing(
+        samples: *const i8,
+        samples_len: usize,
+        place: u64,
+        reach: u64,
+        crossing: *mut u64,
+    ) -> u32;
     pub fn svx_level_at_ms(points: *const u8, points_len: usize, start: i32, t_ms: u64) -> i32;
     pub fn svx_octave_samples(one_shot: u32, repeat: u32, octaves: u8, k: u8) -> Part;
     pub fn svx_loop_repeat(one_shot: u32, repeat: u32, octaves: u8, k: u8, octave_len: u64) -> Part;

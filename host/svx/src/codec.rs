@@ -1,4 +1,4 @@
-//! BODY and its channels, and the loudest sample.
+//! BODY and its channels, the loudest sample, and crossings.
 use crate::ffi;
 use crate::Refusal;
 
@@ -57,4 +57,22 @@ pub fn decode_body(body: &[u8], compression: u8, channels: u16, frames: u64) -> 
 pub fn peak(samples: &[i8]) -> Option<(u8, usize)> {
     let (magnitude, place) = ffi::peak(samples)?;
     Some((magnitude, usize::try_from(place).ok()?))
+}
+
+/// The crossing nearest to `place` that is at most `reach` away: a place where the sample before is below 0 and the
+/// sample there isn't, or the other way round. Of two as near it is the earlier. A loop clicks less where its ends lie
+/// on crossings.
+///
+/// The place may lie past the end, as the end of a loop does. Refused by 43, where there is no crossing within reach.
+///
+/// ```
+/// let samples = [3, 9, 2, -4, -7, -1, 5];
+/// assert_eq!(svx::nearest_crossing(&samples, 4, usize::MAX), Ok(3));
+/// assert_eq!(svx::nearest_crossing(&samples, samples.len(), 1), Ok(6));
+/// // The place alone, which isn't one.
+/// assert_eq!(svx::nearest_crossing(&samples, 4, 0).unwrap_err().number(), 43);
+/// ```
+pub fn nearest_crossing(samples: &[i8], place: usize, reach: usize) -> Result<usize, Refusal> {
+    // What is found is less than the number of samples, so nothing is cut off.
+    ffi::nearest_crossing(samples, place as u64, reach as u64).map(|crossing| crossing as usize)
 }

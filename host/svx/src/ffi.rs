@@ -243,6 +243,14 @@ pub fn peak(samples: &[i8]) -> Option<(u8, u64)> {
     peak.found.then_some((peak.magnitude, peak.place))
 }
 
+/// The nearest crossing to a place, at most so far off.
+pub fn nearest_crossing(samples: &[i8], place: u64, reach: u64) -> Result<u64, Refusal> {
+    let mut crossing = 0;
+    // SAFETY: as the module says.
+    let refusal = unsafe { svx_nearest_crossing(samples.as_ptr(), samples.len(), place, reach, &mut crossing) };
+    Refusal::judge(refusal).map(|()| crossing)
+}
+
 /// The level of an envelope, whose points have six bytes each as in ATAK.
 pub fn level_at_ms(points: &[u8], start: i32, t_ms: u64) -> i32 {
     // SAFETY: as the module says.

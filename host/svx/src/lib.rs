@@ -6,6 +6,7 @@
 //! - [`parse_voice`] and [`encode_voice`] turn a file into a [`Voice`] and back.
 //! - A [`Sheet`] is a voice as it is played. A [`Note`] plays it, block by block.
 //! - [`Sheet::octave_wave`] writes an octave of a voice as a RIFF WAVE file.
+//! - [`ChannelSamples::nearest_crossing`] finds the quiet spot beside the end of a loop.
 //! - What can be turned back answers a [`Refusal`], which has a number and words. Nothing here panics, whatever the
 //!   input.
 //!
@@ -79,7 +80,7 @@ mod sheet;
 mod small_chunks;
 mod voice;
 
-pub use codec::{decode_body, fibonacci_decode_channel, fibonacci_encode_channel, peak};
+pub use codec::{decode_body, fibonacci_decode_channel, fibonacci_encode_channel, nearest_crossing, peak};
 pub use header::{VoiceHeader, UNITY_VOLUME};
 pub use note::Note;
 pub use refusal::Refusal;

@@ -5,8 +5,8 @@ use std::fmt;
 /// Why a call was turned back: one of the library's numbered rules.
 ///
 /// A refused call changes nothing: no buffer is written, and a note stays as it was. 1 to 14 turn back a file that is
-/// read, 10, 13 and 15 to 19 a voice that is written, these and 31 and 41 an octave that is written as a WAVE file, and
-/// 10, 13, 18, 21 to 25 and 31 to 34 a fill.
+/// read, 10, 13 and 15 to 19 a voice that is written, these and 31 and 41 an octave that is written as a WAVE file, 10,
+/// 13, 18, 21 to 25 and 31 to 34 a fill, and 31 and 43 a search for a crossing.
 ///
 /// ```
 /// let refusal = svx::parse_voice(b"FORM").unwrap_err();
@@ -50,6 +50,7 @@ fn words_of(number: u32) -> Option<&'static str> {
         33 => "the output rate is 0 or above 192,000",
         34 => "the key-up frame is later than the frames filled",
         41 => "the voice's rate is 0",
+        43 => "there is no crossing within reach",
         // } refusals.txt
         _ => return None,
     })
@@ -59,6 +60,7 @@ impl Refusal {
     pub(crate) const SAMPLES_UNSUITED: Refusal = Refusal(18);
     pub(crate) const FORM_LENGTH: Refusal = Refusal(19);
     pub(crate) const BUFFER_SHORT: Refusal = Refusal(20);
+    pub(crate) const NO_OCTAVE: Refusal = Refusal(31);
 
     /// A call's answer in C: 0 where it was accepted, else the refusal's number.
     pub(crate) fn judge(number: u32) -> Result<(), Refusal> {

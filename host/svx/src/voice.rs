@@ -1,6 +1,6 @@
 //! A voice by its parts.
 use crate::ffi;
-use crate::{ChannelAssignment, Envelope, Fade, Pan, Seqn, VoiceHeader};
+use crate::{ChannelAssignment, Envelope, Fade, Pan, Refusal, Seqn, VoiceHeader};
 
 /// A voice by its parts, to be looked at, changed and put together. To play one, make a [`Sheet`](crate::Sheet) of it.
 #[derive(Clone, Debug, Default, PartialEq, Eq)]
@@ -69,6 +69,29 @@ impl ChannelSamples {
         let (one_shot, repeat) = (header.one_shot_hi_samples, header.repeat_hi_samples);
         let start = ffi::loop_start(one_shot, repeat, header.ct_octave, k, length)?;
         octave.split_at_checked(usize::try_from(start).ok()?)
+    }
+
+    /// The crossing nearest to a place of octave `k`, as [`nearest_crossing`](crate::nearest_crossing) finds it. Refused
+    /// by 31, where there is no such octave, then by 43.
+    ///
+    /// ```
+    /// use svx::{ChannelSamples, VoiceHeader};
+    ///
+    /// # fn main() -> Result<(), svx::Refusal> {
+    /// let header = VoiceHeader { one_shot_hi_samples: 3, repeat_hi_samples: 5, ..VoiceHeader::default() };
+    /// let channel = ChannelSamples { octaves: vec![vec![0, 40, 25, 8, -6, -30, -12, 9]] };
+    ///
+    /// // A loop that begins on 8 and ends after 9: both ends may move to a crossing close by.
+    /// let (one_shot, repeat) = channel.loop_split(&header, 0).expect("both parts make up the octave");
+    /// let (start, end) = (one_shot.len(), one_shot.len() + repeat.len());
+    /// assert_eq!(channel.nearest_crossing(0, start, 2)?, 4);
+    /// assert_eq!(channel.nearest_crossing(0, end, 2)?, 7);
+    /// # Ok(())
+    /// # }
+    /// ```
+    pub fn nearest_crossing(&self, k: u8, place: usize, reach: usize) -> Result<usize, Refusal> {
+        let octave = self.octaves.get(usize::from(k)).ok_or(Refusal::NO_OCTAVE)?;
+        crate::nearest_crossing(octave, place, reach)
     }
 
     /// A side's samples, cut into octaves by the header.

@@ -91,6 +91,10 @@ fn use_sheet(r: &mut Xorshift, sheet: &Sheet) {
     for channel in &voice.channels {
         channel.loop_split(&voice.header, k);
         svx::peak(&channel.flattened());
+        judge(
+            channel.nearest_crossing(k, r.next() as usize, r.next() as usize),
+            &[31, 43],
+        );
     }
     use_wave(sheet, &voice, k);
     use_wave(sheet, &voice, r.byte());

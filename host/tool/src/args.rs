@@ -136,6 +136,12 @@ impl Given {
         }
     }
 
+    /// A whole number that has to be given.
+    pub fn needed(&self, name: &str, bounds: RangeInclusive<u64>) -> Result<u64, Failure> {
+        let missing = || self.wrong(&format!("{name} is missing (svx {} --help tells more)", self.command));
+        self.number(name, bounds)?.ok_or_else(missing)
+    }
+
     /// A decimal number such as 0.25, in billionths: whole numbers lose nothing on the way to frames and steps.
     pub fn billionths(&self, name: &str) -> Result<Option<u64>, Failure> {
         let Some(text) = self.value(name) else { return Ok(None) };

@@ -15,8 +15,9 @@ pub const DRAW: Command = Command {
     does: "draw the waveforms and the envelope as a picture",
     help: "\
 Draws the voice FILE to OUT.svg (- is standard output): the waveform of each
-octave with its loop part shaded, and below them the level of a note over time,
-the key being let go where the attack ends.",
+octave with its loop part shaded, the loop's ends marked, and how far from each
+the nearest crossing is (svx crossing --help tells what that is); below them the
+level of a note over time, the key being let go where the attack ends.",
     flags: &[],
     values: &[],
     files: 2..=2,
@@ -26,6 +27,7 @@ the key being let go where the attack ends.",
 const TITLE: &str = r##"font-size="22" font-weight="bold" fill="#222222""##;
 const SUBTITLE: &str = r##"font-size="12" fill="#555555""##;
 const LOOP: &str = r##"fill="#e3ecf8""##;
+const END: &str = r##"fill="#2f5d9b""##;
 /// The waves of the channels.
 const INKS: [&str; 2] = ["#1f3b63", "#7a3420"];
 
@@ -113,8 +115,9 @@ fn octave(svg: &mut Svg, voice: &Voice, k: usize, top: f64) -> f64 {
     parts(svg, voice, k, &area);
     for (i, channel) in voice.channels.iter().enumerate() {
         if i > 0 {
-            area.top = area.bottom() + 18.0;
+            area.top = area.bottom() + 26.0;
         }
+        ends(svg, voice, channel, k, &area);
         wave(svg, voice, channel, k, &area, INKS[i % 2]);
         if voice.channel_count() > 1 {
             let side = if i == 0 { "left" } else { "right" };
@@ -156,6 +159,44 @@ fn split(voice: &Voice, k: usize) -> Option<(u64, u64)> {
         .first()?
         .loop_split(&voice.header, u8::try_from(k).ok()?)?;
     Some((one_shot.len() as u64, repeat.len() as u64))
+}
+
+/// The first place of an octave's loop, and the place past its last; none where it has no loop.
+fn loop_ends(voice: &Voice, k: usize) -> Option<[u64; 2]> {
+    let (one_shot, repeat) = split(voice, k)?;
+    (repeat > 0 && voice.seqn.is_none()).then_some([one_shot, one_shot + repeat])
+}
+
+/// Marks above the ends of a channel's loop, and how far from each the nearest crossing is.
+fn ends(svg: &mut Svg, voice: &Voice, channel: &ChannelSamples, k: usize, area: &Area) {
+    let Some(ends) = loop_ends(voice, k) else {
+        return;
+    };
+    for end in ends {
+        let (x, y) = (area.x(end as f64), area.top);
+        let corners = [(x - 4.0, y - 6.0), (x + 4.0, y - 6.0), (x, y)];
+        let points = corners.map(|(x, y)| format!("{},{}", number(x), number(y))).join(" ");
+        svg.element("polygon", &format!(r#"points="{points}" {END}"#));
+    }
+    let [start, end] = ends.map(|end| format!("{}: {}", grouped(end), crossing(channel, k, end)));
+    let middle = ((LEFT + RIGHT) / 2.0, area.top - 8.0);
+    svg.text(
+        middle,
+        Anchor::Middle,
+        SMALL,
+        &format!("loop start {start}; loop end {end}"),
+    );
+}
+
+/// How far the nearest crossing to a place is.
+fn crossing(channel: &ChannelSamples, k: usize, place: u64) -> String {
+    let octave = channel.octaves.get(k).map_or(&[][..], Vec::as_slice);
+    match svx::nearest_crossing(octave, place as usize, usize::MAX).map(|i| i as u64) {
+        Ok(i) if i == place => "on a crossing".to_string(),
+        Ok(i) if i < place => format!("nearest crossing {} earlier", grouped(place - i)),
+        Ok(i) => format!("nearest crossing {} later", grouped(i - place)),
+        Err(_) => "no crossing".to_string(),
+    }
 }
 
 /// One channel of an octave.

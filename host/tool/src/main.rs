@@ -3,6 +3,7 @@
 mod args;
 mod check;
 mod convert;
+mod crossing;
 mod draw;
 mod envelope;
 mod failure;
@@ -24,7 +25,7 @@ use std::ffi::OsString;
 use std::io::Write;
 use std::process::ExitCode;
 
-const COMMANDS: [&Command; 8] = [
+const COMMANDS: [&Command; 9] = [
     &info::INFO,
     &check::CHECK,
     &stem::STEM,
@@ -32,6 +33,7 @@ const COMMANDS: [&Command; 8] = [
     &wave::WAVE,
     &convert::RAW,
     &convert::REWRITE,
+    &crossing::CROSSING,
     &draw::DRAW,
 ];
 
@@ -87,11 +89,11 @@ fn help(words: &str) -> Result<u8, Failure> {
 fn overview() -> String {
     let mut words = "A tool for Amiga voices (FORM 8SVX).\n\nusage: svx COMMAND FILE ..\n\n".to_string();
     for command in COMMANDS {
-        words += &format!("  {:<9}{}\n", command.name, command.does);
+        words += &format!("  {:<10}{}\n", command.name, command.does);
     }
     words += "\nsvx COMMAND --help tells more of a command. The status is 0; 1 where a file, a\n";
-    words += "note or an octave is refused; 2 for wrong usage or a file that can't be read or\n";
-    words + "written.\n"
+    words += "note, an octave or a search is refused; 2 for wrong usage or a file that can't be\n";
+    words + "read or written.\n"
 }
 
 /// The help of a command.

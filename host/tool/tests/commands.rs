@@ -17,7 +17,9 @@ const EXAMPLE: [u8; 50] = [
     0, 0, 0, 0, 0, 0, 0, 0, 0x1F, 0x40, 1, 0, 0, 1, 0, 0, 0x42, 0x4F, 0x44, 0x59, 0, 0, 0, 1, 0xFE, 0,
 ];
 
-const COMMANDS: [&str; 8] = ["info", "check", "stem", "null", "wave", "raw", "rewrite", "draw"];
+const COMMANDS: [&str; 9] = [
+    "info", "check", "stem", "null", "wave", "raw", "rewrite", "crossing", "draw",
+];
 
 /// What a run of the tool gave.
 struct Ran {
@@ -290,6 +292,12 @@ fn wrong_usage_is_2() {
     run(&[&"wave", &file, &out, &"--octave=256"]).fails(2, "from 0 to 255");
     run(&[&"wave", &file, &out, &"--force=1"]).fails(2, "takes no value");
     run(&[&"wave", &file, &"-", &"--all"]).fails(2, "--all writes several files");
+    run(&[&"crossing", &file, &"--place=0"]).fails(2, "--octave is missing (svx crossing --help tells more)");
+    run(&[&"crossing", &file, &"--octave=0"]).fails(2, "--place is missing");
+    run(&[&"crossing", &file, &"--octave=256", &"--place=0"]).fails(2, "from 0 to 255");
+    run(&[&"crossing", &file, &"--octave=0", &"--place=-1"]).fails(2, "from 0 to 18,446,744,073,709,551,615");
+    run(&[&"crossing", &file, &"--octave=0", &"--place=0", &"--reach=near"]).fails(2, "--reach takes a whole number");
+    run(&[&"crossing", &file, &file, &"--octave=0", &"--place=0"]).fails(2, "usage: svx crossing FILE");
     assert!(!out.exists());
 }
 
@@ -309,6 +317,7 @@ fn bad_input_is_told_in_one_line() {
     for (path, status, words) in cases {
         run(&[&"info", &path]).fails(status, words);
         run(&[&"null", &path]).fails(status, words);
+        run(&[&"crossing", &path, &"--octave=0", &"--place=0"]).fails(status, words);
         run(&[&"wave", &path, &out, &"--all"]).fails(status, words);
         for command in ["stem", "wave", "raw", "rewrite", "draw"] {
             run(&[&command, &path, &out]).fails(status, words);
@@ -932,6 +941,49 @@ fn a_file_that_comes_in_the_meantime_undoes_all() {
     assert_eq!(number(), old_number);
 }
 
+#[test]
+fn crossing_prints_the_nearest_place() {
+    let folder = Folder::new("crossing");
+    let mut voice = looped();
+    voice.channels = vec![ChannelSamples {
+        octaves: vec![vec![3, -1, -2, 4, 5, 0, 0, 7, 7, 7, 7, 7], vec![-9; 24]],
+    }];
+    let file = folder.voice("v", &voice);
+    let crossing = |options: &[&str]| {
+        let mut arguments: Vec<&dyn AsRef<OsStr>> = vec![&"crossing", &file];
+        options.iter().for_each(|option| arguments.push(option));
+        run(&arguments)
+    };
+    for (place, found) in [
+        ("0", "1\n"),
+        ("2", "1\n"),
+        ("3", "3\n"),
+        ("18446744073709551615", "3\n"),
+    ] {
+        assert_eq!(crossing(&["--octave=0", "--place", place]).well().out, found);
+    }
+    assert_eq!(crossing(&["--octave=0", "--place=12", "--reach=9"]).well().out, "3\n");
+    crossing(&["--octave=0", "--place=12", "--reach=8"])
+        .fails(1, "v: refused by 43: there is no crossing within reach");
+    crossing(&["--octave=0", "--place=2", "--reach=0"]).fails(1, "refused by 43: ");
+    crossing(&["--octave=1", "--place=2"]).fails(1, "refused by 43: ");
+    crossing(&["--octave=2", "--place=2"]).fails(1, "refused by 31: ");
+    crossing(&["--octave=0", "--place=2", "--right"]).fails(2, "v: has one channel, and no right side");
+}
+
+#[test]
+fn crossing_looks_at_one_side() {
+    let folder = Folder::new("crossing-sides");
+    let file = folder.voice("v", &stereo());
+    // Left 1, -2, 3 and right -128, 127, 0.
+    let last = |side: &[&str]| {
+        let mut arguments: Vec<&dyn AsRef<OsStr>> = vec![&"crossing", &file, &"--octave=0", &"--place=3"];
+        side.iter().for_each(|option| arguments.push(option));
+        run(&arguments).well().out
+    };
+    assert_eq!((last(&[]).as_str(), last(&["--right"]).as_str()), ("2\n", "1\n"));
+}
+
 /// Whether every element of an XML text is closed in its place.
 fn well_formed(text: &str) -> bool {
     let mut open: Vec<&str> = Vec::new();
@@ -966,6 +1018,11 @@ fn drawn(folder: &Folder, voice: &Voice) -> String {
     svg
 }
 
+/// How many ends of loops are marked.
+fn marks(svg: &str) -> usize {
+    svg.matches(r##"fill="#2f5d9b"/>"##).count()
+}
+
 #[test]
 fn draw_makes_a_picture() {
     let folder = Folder::new("draw");
@@ -990,7 +1047,40 @@ fn draw_makes_a_picture() {
     }
     let svg = drawn(&folder, &stereo());
     assert!(svg.matches("<path ").count() == 2 && svg.contains(">left<"), "{svg}");
+    assert!(marks(&svg) == 0 && !svg.contains("crossing"), "no loop, no ends: {svg}");
     assert!(svg.contains(">voice.8svx<"), "without a name, the file's");
+}
+
+#[test]
+fn draw_marks_the_ends_of_loops() {
+    let folder = Folder::new("loop-ends");
+    let mut voice = looped();
+    let quiet = vec![7; 24];
+    voice.channels = vec![ChannelSamples {
+        octaves: vec![vec![5, 5, -5, 5, 5, 5, 5, 5, -5, -5, -5, -5], quiet.clone()],
+    }];
+    let svg = drawn(&folder, &voice);
+    assert_eq!(marks(&svg), 4, "two ends in each of two octaves");
+    let words = [
+        "loop start 4: nearest crossing 1 earlier; loop end 12: nearest crossing 4 earlier",
+        "loop start 8: no crossing; loop end 24: no crossing",
+    ];
+    for words in words {
+        assert!(svg.contains(&format!(">{words}<")), "{words}: {svg}");
+    }
+    // Each channel has crossings of its own.
+    voice.channel = Some(ChannelAssignment::Stereo);
+    voice.channels.push(ChannelSamples {
+        octaves: vec![vec![-1, -1, -1, -1, 1, 1, 1, 1, 1, 1, 1, 1], quiet],
+    });
+    let svg = drawn(&folder, &voice);
+    assert_eq!(marks(&svg), 8);
+    let words = "loop start 4: on a crossing; loop end 12: nearest crossing 8 earlier";
+    assert!(svg.contains(&format!(">{words}<")), "{svg}");
+    voice.channels[1].octaves[0] = vec![1, 1, 1, 1, 1, 1, -1, -1, -1, -1, -1, -1];
+    assert!(drawn(&folder, &voice).contains("loop start 4: nearest crossing 2 later; loop end"));
+    // What a sequence plays isn't looped.
+    assert_eq!(marks(&drawn(&folder, &unplayable())), 0);
 }
 
 #[test]
