@@ -13,12 +13,13 @@ use borrow.Author.Tests.{ltb-true, ltb-false, eqb-true, eqb-false, leb-true, le-
 use lib.Dec.{eqb, ltb, leb}
 use lib.IntN.{ℤ}
 use lib.ListN.{length}
+use Rattle.laws.specs.Among.{Among}
 use Rattle.refusal.specs.Numbers.{noCrossing}
 use Rattle.crossing.specs.Crossing.{signChanges, placesFrom, those, crossings, farOff, comesFirst, nearer, nearestOf, nearestCrossing}
 use Rattle.crossing.specs.Promise.{WithinReach, IsNearest}
 use Rattle.crossing.specs.declared.Crossing.{Crossing}
 use Rattle.crossing.specs.declared.Crossing.the-variants.{Found, Refused}
-use Rattle.crossing.proofs.PlaceLaws.{In, passed, passes, place-bounds, place-in}
+use Rattle.crossing.proofs.PlaceLaws.{passed, passes, place-bounds, place-in}
 
 -- ---- the nearest of a list
 
@@ -60,15 +61,15 @@ module _ (place : ℕ) where
 
   -- what an answer says of a list: one of its places, which no other comes before; or that it has none
   abbrev Says : Crossing → List ℕ → Type 0
-  Says (Found i) l = In i l × ((j : ℕ) → In j l → NotBefore place i j)
-  Says (Refused n) l = (n ≡ noCrossing) × ((j : ℕ) → In j l → ⊥)
+  Says (Found i) l = Among i l × ((j : ℕ) → Among j l → NotBefore place i j)
+  Says (Refused n) l = (n ≡ noCrossing) × ((j : ℕ) → Among j l → ⊥)
 
   says : (l : List ℕ) → Says (nearestOf place l) l
   unfolding nearestOf
   says [] = (refl, λ j h. h)
   says (i ∷ is) = go (nearestOf place is) (says is)
     where
-      by : (j : ℕ) → In j is → ((k : ℕ) → In k is → NotBefore place j k) → (t : Bool) → comesFirst place j i ≡ t → Says (Found (cond t j i)) (i ∷ is)
+      by : (j : ℕ) → Among j is → ((k : ℕ) → Among k is → NotBefore place j k) → (t : Bool) → comesFirst place j i ≡ t → Says (Found (cond t j i)) (i ∷ is)
       by j h least true e = (inr h, λ k. ⊎-elim (λ same. rw same (first-of-two i j true e)) (λ h. least k h))
       by j h least false e = (inl refl, λ k. ⊎-elim (λ same. rw same (itself i)) (λ h. onward i j k (first-of-two i j false e) (least k h)))
 
@@ -82,7 +83,7 @@ module _ (samples : List ℤ) (place reach : ℕ) where
   abbrev within : List ℕ
   within = those (λ i. leb (farOff place i) reach) (crossings samples)
 
-  within-reach : (j : ℕ) → In j within → WithinReach samples place reach j
+  within-reach : (j : ℕ) → Among j within → WithinReach samples place reach j
   within-reach j h =
       let near = passed (λ i. leb (farOff place i) reach) j (crossings samples) h in
       let change = passed (signChanges samples) j (placesFrom 1 (length samples - 1)) (near .0) in
@@ -92,7 +93,7 @@ module _ (samples : List ℤ) (place reach : ℕ) where
         near = leb-true (farOff place j) reach (near .1);
       }
 
-  reach-within : (j : ℕ) → WithinReach samples place reach j → In j within
+  reach-within : (j : ℕ) → WithinReach samples place reach j → Among j within
   reach-within j w =
       let c = w .crossing in
       let there = place-in j 1 (length samples - 1) (c .first) (omega (arith, c .first, c .last)) in

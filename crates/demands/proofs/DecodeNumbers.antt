@@ -4,6 +4,7 @@ use Prim.Native.Nat.{ℕ, zero, suc}
 use mathlib.Core.List.{List}
 use lib.Dec.{ltb}
 use lib.ListN.{length}
+use Rattle.laws.specs.Among.{Among}
 use Rattle.refusal.specs.Numbers.{compression, oddHalves, channelShort}
 use Rattle.refusal.specs.Outcome.{Outcome}
 use Rattle.header.specs.Compression.{knownCompression, byCompression}
@@ -13,7 +14,7 @@ use Rattle.fibonacci.specs.Decode.{fibChannel}
 use Rattle.samples.specs.Stream.{stream}
 use Rattle.samples.specs.Halves.{leftHalf, rightHalf, uneven}
 use Rattle.body_decode.specs.Body.{oneChannel, twoChannels, decodedBody}
-use Rattle.demands.specs.Demand1.{Among, bodyNumbers}
+use Rattle.demands.specs.Demand1.{bodyNumbers}
 use Rattle.demands.proofs.NumberLaws.{one-of, Within, by-test, then-within}
 
 -- ---- steps that several chains have

@@ -8,6 +8,7 @@ use mathlib.Core.Path.{_≡_, refl}
 use lib.Dec.{eqb, leb, ltb}
 use lib.IntN.{ℤ}
 use lib.ListN.{length}
+use Rattle.laws.specs.Among.{Among}
 use Rattle.laws.proofs.Cases.{impossible}
 use Rattle.laws.specs.Buffer.{written}
 use Rattle.refusal.specs.Numbers.{bufferShort, channelShort, compression, channelValue}
@@ -40,7 +41,7 @@ use Rattle.voice_read.specs.Parsed.{Lent, ReadResult, lengthsOf, neededBy, fits
 use Rattle.voice_read.specs.declared.chunks.Parsed.the-variants as Parsed
 use Rattle.voice_write.specs.WriteVoice.{writeSheet}
 use Rattle.wave.specs.Wave.{octaveWaveOf}
-use Rattle.demands.specs.Demand1.{Among, readingNumbers, writingNumbers, bodyNumbers, sideNumbers, channelNumbers, fillNumbers, waveNumbers, FillsOrKeeps, Demand1}
+use Rattle.demands.specs.Demand1.{readingNumbers, writingNumbers, bodyNumbers, sideNumbers, channelNumbers, fillNumbers, waveNumbers, FillsOrKeeps, Demand1}
 use Rattle.demands.proofs.NumberLaws.{one-of, Within, refused-by}
 use Rattle.demands.proofs.FirstNumbers.{refused-record}
 use Rattle.demands.proofs.DecodeNumbers.{channel-within, body-within}

@@ -9,6 +9,7 @@ use native.Mathlib.Omega.{arith}
 use borrow.Author.Tests.{lt-leb}
 use lib.Dec.{ltb}
 use lib.ListN.{length}
+use Rattle.laws.specs.Among.{Among}
 use Rattle.laws.proofs.Cases.{impossible}
 use Rattle.refusal.specs.Outcome.{Outcome, gives, refuses}
 use Rattle.field.specs.BigEndian.{Bytes}
@@ -31,7 +32,7 @@ use Rattle.note_rules.proofs.RuleLaws.{rules-are, not-ahead, never-ahead}
 use Rattle.note.specs.Fill.{fillVoice, fillSheet}
 use Rattle.note.proofs.FillLaws.{rulesOf, rule-holds, no-rule}
 use Rattle.voice_read.specs.ReadVoice.{Reading, readVoice}
-use Rattle.demands.specs.Demand1.{Among, fillNumbers, sheetNumbers}
+use Rattle.demands.specs.Demand1.{fillNumbers, sheetNumbers}
 use Rattle.demands.specs.Demand2.{Acceptable}
 use Rattle.demands.specs.Demand3.{readVoiceNumbers, RefusedAmong}
 use Rattle.demands.specs.Reckoning.{Call, fill, keyUp, Started, State, playing, atFirst, setBy, fillAt, answerTo, grown, reckonFrom}

@@ -7,6 +7,7 @@ use mathlib.Core.Logic.{inl, inr, ⊎-elim}
 use mathlib.Core.Path.{_≡_, refl}
 use lib.Dec.{eqb}
 use lib.ListN.{length, getD, take, drop}
+use Rattle.laws.specs.Among.{Among}
 use Rattle.refusal.specs.Numbers.{chunkPastForm, chunkTwice, chunkLength, channelValue, recordWrong}
 use Rattle.chunk.specs.Chunk.{itemsFrom}
 use Rattle.chunk.specs.ForCode.{stepAt}
@@ -21,7 +22,7 @@ use Rattle.sheet.specs.Order.{misplaced, groupAfter, valueWrong, firstWrong}
 use Rattle.sheet.specs.declared.record.RecordStep.{RecordStep}
 use Rattle.sheet.specs.declared.record.RecordStep.the-variants as record-step
 use Rattle.sheet.proofs.RecordLaws.{is-end, is-refused, is-number, is-record}
-use Rattle.demands.specs.Demand1.{Among, recordNumbers}
+use Rattle.demands.specs.Demand1.{recordNumbers}
 use Rattle.demands.proofs.NumberLaws.{one-of, by-test, along}
 
 -- ---- chunks

@@ -14,11 +14,11 @@ use native.Mathlib.Omega.{arith}
 use borrow.Author.Tests.{eqb-true}
 use lib.Dec.{T, eqb}
 use lib.Ieee.Fits.{and-l, and-r}
+use Rattle.laws.specs.Among.{Among}
 use Rattle.laws.proofs.Cases.{impossible}
 use Rattle.refusal.proofs.RuleLaws.{by-number, first-holds}
 use Rattle.refusal.specs.Outcome.{Outcome, gives, refuses, andThen}
 use Rattle.refusal.specs.Rules.{Rule, Holds, NoneHolds, firstHolding, unlessRefused}
-use Rattle.demands.specs.Demand1.{Among}
 
 -- ---- a number of a list
 

@@ -9,6 +9,7 @@ use mathlib.Core.Path.{refl}
 use lib.Dec.{eqb, ltb}
 use lib.IntN.{ℤ}
 use lib.ListN.{length, drop}
+use Rattle.laws.specs.Among.{Among}
 use Rattle.refusal.specs.Numbers.{fileShort, notForm, not8svx, noHeader, noBody, compression, oddHalves, channelShort, octaveTotal, samplesShort}
 use Rattle.refusal.specs.Outcome.{Outcome, gives, refuses}
 use Rattle.field.specs.BigEndian.{bigEndian}
@@ -25,7 +26,7 @@ use Rattle.form.specs.Find.{firstOf}
 use Rattle.sheet_read.specs.FormVoice.{formVoice}
 use Rattle.sheet.specs.Voice.{isStereo}
 use Rattle.voice_read.specs.ReadVoice.{Reading, withChunk, readItems, formOf, headRefusal, readVoice}
-use Rattle.demands.specs.Demand1.{Among, sideNumbers, readingNumbers}
+use Rattle.demands.specs.Demand1.{sideNumbers, readingNumbers}
 use Rattle.demands.proofs.NumberLaws.{one-of, all-of, Within, by-test, then-within, unless-zero}
 use Rattle.demands.proofs.FirstNumbers.{chunkNumbers, bad-number}
 use Rattle.demands.proofs.DecodeNumbers.{compression-within, stream-within}

@@ -5,6 +5,7 @@ use mathlib.Core.List.{List, _∷_}
 use mathlib.Core.Path.{_≡_}
 use lib.Dec.{T, ltb}
 use lib.ListN.{length}
+use Rattle.laws.specs.Among.{Among}
 use Rattle.refusal.specs.Numbers.{compression, octaveTotal, textIllFormed, sampleLengths, formLength}
 use Rattle.refusal.specs.Outcome.{Outcome, refuses}
 use Rattle.header.specs.Octaves.{totalSamples}
@@ -17,7 +18,7 @@ use Rattle.sheet.specs.Judge.{textsWellFormed, judgedItems, judged, ifSound}
 use Rattle.sheet.specs.declared.judge.Judged.{Judged}
 use Rattle.sheet.specs.declared.judge.Judged.the-variants.{Sound, Refused}
 use Rattle.voice_write.specs.WriteVoice.{contents, held32, writeVoice, writeSheet}
-use Rattle.demands.specs.Demand1.{Among, writingNumbers, sheetNumbers, recordNumbers}
+use Rattle.demands.specs.Demand1.{writingNumbers, sheetNumbers, recordNumbers}
 use Rattle.demands.proofs.NumberLaws.{one-of, areOf, all-of, Within, by-test, unless-zero}
 use Rattle.demands.proofs.FirstNumbers.{wrong-number}
 use Rattle.demands.proofs.DecodeNumbers.{compression-within}

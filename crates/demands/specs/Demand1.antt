@@ -6,10 +6,10 @@
 use Prim.Native.Nat.{ℕ}
 use mathlib.Core.Bool.{Bool}
 use mathlib.Core.List.{List, [], _∷_, map}
-use mathlib.Core.Logic.{_⊎_}
 use mathlib.Core.Path.{_≡_}
 use lib.IntN.{ℤ}
 use lib.ListN.{length}
+use Rattle.laws.specs.Among.{Among}
 use Rattle.refusal.specs.Numbers.{fileShort, notForm, not8svx, chunkPastForm, chunkTwice, chunkLength, channelValue, noHeader, noBody}
 use Rattle.refusal.specs.Numbers.{compression, oddHalves, channelShort, octaveTotal, samplesShort}
 use Rattle.refusal.specs.Numbers.{recordCut, recordWrong, textIllFormed, sampleLengths, formLength, bufferShort}
@@ -57,11 +57,6 @@ use Rattle.voice_read.specs.Parsed.{Lent, neededBy, afterReading}
 use Rattle.voice_read.specs.declared.chunks.Parsed.the-variants as Parsed
 use Rattle.voice_write.specs.WriteVoice.{writeSheet}
 use Rattle.wave.specs.Wave.{octaveWaveOf}
-
--- the number is one of these
-abbrev pub Among : ℕ → List ℕ → Type 0
-Among n [] = ⊥
-Among n (m ∷ ms) = (n ≡ m) ⊎ Among n ms
 
 -- ---- the numbers
 

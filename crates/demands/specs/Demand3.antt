@@ -9,6 +9,7 @@ use mathlib.Core.Logic.{_⊎_}
 use mathlib.Core.Path.{_≡_}
 use lib.IntN.{ℤ}
 use lib.ListN.{length, take}
+use Rattle.laws.specs.Among.{Among}
 use Rattle.laws.specs.Buffer.{written}
 use Rattle.refusal.specs.Numbers.{segment, sequenceOneShot, fadeSegment, sequenceLength, oddPlaces, noOctave, step, rate}
 use Rattle.refusal.specs.Outcome.{gives, refuses}
@@ -34,7 +35,7 @@ use Rattle.voice_read.specs.Parsed.{Lent, afterReading}
 use Rattle.voice_read.specs.ReadVoice.{Reading, readVoice}
 use Rattle.voice_read.specs.declared.chunks.Lengths.{Lengths}
 use Rattle.voice_read.specs.declared.chunks.Parsed.the-variants.{Voice}
-use Rattle.demands.specs.Demand1.{Among, sheetNumbers}
+use Rattle.demands.specs.Demand1.{sheetNumbers}
 use Rattle.demands.specs.Reckoning.{Call, fill, keyUp, Started, reckonFrom, atFirst, reckon, OneNote}
 
 -- ---- what the reckoning is told

@@ -2,13 +2,13 @@
 use Prim.Native.Nat.{ℕ}
 use mathlib.Core.List.{List, [], _∷_}
 use mathlib.Core.Path.{_≡_}
+use Rattle.laws.specs.Among.{Among}
 use Rattle.refusal.specs.Numbers.{noOctave, voiceRate, formLength}
 use Rattle.refusal.specs.Outcome.{gives, refuses}
 use Rattle.field.specs.BigEndian.{Bytes}
 use Rattle.voice_read.specs.ReadVoice.{Reading, readVoice}
 use Rattle.wave.specs.ReadBack.{ReadBack}
 use Rattle.wave.specs.Wave.{octaveWave}
-use Rattle.demands.specs.Demand1.{Among}
 
 -- the numbers that can turn back an octave of a read voice: 31, 41, 19
 abbrev pub readWaveNumbers : List ℕ

@@ -3,3 +3,4 @@ pub mod Walk
 pub mod Put
 pub mod Buffer
 pub mod Turns
+pub mod Among
