@@ -38,6 +38,7 @@
  * 34  the key-up frame is later than the frames filled
  * 41  the voice's rate is 0
  * 43  there is no crossing within reach
+ * 44  the velocity is 0 or above 127
  * } refusals.txt
  */
 #ifndef SVX_H
@@ -91,10 +92,12 @@ uint32_t svx_octave_wave(const uint8_t *sheet, size_t sheet_len, const int8_t *l
  * calls give the same frames, however the frames are cut into blocks. Of a voice with one channel PAN says how much each side gets, where
  * there is a PAN, else CHAN, else both get all of it; two channels have a side each, and their PAN isn't looked at. */
 
-/* step: 65,536 is one sample a frame; rate is the output's, in frames a second; frames is how many were filled. key_up is the frame of the
+/* velocity is how hard the key was struck, from 1 to 127; values become times velocity / 127, so that 127 leaves them, and every call keeps it.
+ * step: 65,536 is one sample a frame; rate is the output's, in frames a second; frames is how many were filled. key_up is the frame of the
  * key-up, and 0 while the note is held: of a note handed in with released false it is ignored, and it comes back as 0, from every call. */
 typedef struct {
     uint8_t octave;
+    uint8_t velocity;
     uint32_t step;
     uint32_t rate;
     uint32_t frames;
@@ -111,14 +114,14 @@ typedef struct {
 
 /* A fresh note: no frames filled, held.
  * Whatever it is given it keeps; a fill judges it. */
-SvxNote svx_note_start(uint8_t octave, uint32_t step, uint32_t rate);
+SvxNote svx_note_start(uint8_t octave, uint32_t step, uint32_t rate, uint8_t velocity);
 
 /* The note after a key-up, which is at the frames filled.
  * Only the first key-up counts. */
 SvxNote svx_note_key_up(SvxNote note);
 
 /* Fills a buffer with the next frames of a note on a voice, left and right 16-bit values by turns; out_len counts places, two a frame.
- * Refused by 15 to 17, then 10, 13, 18, 21 to 25, 31 to 34 in that order; then the note comes back as it was given, but that of a held
+ * Refused by 15 to 17, then 10, 13, 18, 21 to 25, 31 to 34, 44 in that order; then the note comes back as it was given, but that of a held
  * note key_up comes back as 0. */
 SvxFilled svx_note_fill(SvxNote note, const uint8_t *sheet, size_t sheet_len, const int8_t *left, size_t left_len, const int8_t *right,
                         size_t right_len, int16_t *out, size_t out_len);
@@ -259,6 +262,7 @@ static inline const char *svx_refusal_text(uint32_t number) {
     case 34: return "the key-up frame is later than the frames filled";
     case 41: return "the voice's rate is 0";
     case 43: return "there is no crossing within reach";
+    case 44: return "the velocity is 0 or above 127";
     /* } refusals.txt */
     default: return "unknown refusal";
     }

@@ -113,7 +113,7 @@ static uint32_t fill_to(const Voice *v, SvxNote *note, int16_t *stem, uint32_t e
 /* The highest octave's note, held for two seconds and then released. */
 static uint32_t play(const Voice *v, int16_t *stem, uint32_t block) {
     uint64_t sounded = 0;
-    SvxNote note = svx_note_start(0, own_step(v), RATE);
+    SvxNote note = svx_note_start(0, own_step(v), RATE, 127);
     uint32_t refusal = fill_to(v, &note, stem, KEY_UP, block, &sounded);
     if (refusal) return refusal;
     note = svx_note_key_up(note);

@@ -5,10 +5,10 @@ use crate::plain_note;
 
 impl Note {
     pub fn of(n: plain_note::Note) -> Self {
-        Note { octave: n.octave, step: n.step, rate: n.rate, frames: n.frames, released: n.key_up.is_some(), key_up: n.key_up.unwrap_or(77) }
+        Note { octave: n.octave, velocity: n.velocity, step: n.step, rate: n.rate, frames: n.frames, released: n.key_up.is_some(), key_up: n.key_up.unwrap_or(77) }
     }
     pub fn plain(self) -> plain_note::Note {
-        plain_note::Note { octave: self.octave, step: self.step, rate: self.rate, frames: self.frames, key_up: if self.released { Some(self.key_up) } else { None } }
+        plain_note::Note { octave: self.octave, velocity: self.velocity, step: self.step, rate: self.rate, frames: self.frames, key_up: if self.released { Some(self.key_up) } else { None } }
     }
 }
 
@@ -111,7 +111,7 @@ pub fn loop_repeat(one_shot: u32, repeat: u32, octaves: u8, k: u8, octave_len: u
 pub fn side_samples(sheet: &[u8], left_len: u64, right_len: u64, right: bool) -> Part {
     unsafe { svx_side_samples(sheet.as_ptr(), sheet.len(), left_len, right_len, right) }
 }
-pub fn note_start(octave: u8, step: u32, rate: u32) -> Note { held_as_zero(unsafe { svx_note_start(octave, step, rate) }) }
+pub fn note_start(octave: u8, step: u32, rate: u32, velocity: u8) -> Note { held_as_zero(unsafe { svx_note_start(octave, step, rate, velocity) }) }
 pub fn note_key_up(n: Note) -> Note { held_as_zero(unsafe { svx_note_key_up(n) }) }
 pub fn note_fill(n: Note, sheet: &[u8], left: &[i8], right: &[i8], out: &mut [i16]) -> Filled {
     let f = unsafe { svx_note_fill(n, sheet.as_ptr(), sheet.len(), left.as_ptr(), left.len(), right.as_ptr(), right.len(), out.as_mut_ptr(), out.len()) };

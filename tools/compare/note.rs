@@ -70,7 +70,8 @@ fn fresh(r: &mut make::Rng, octaves: u8) -> plain::Note {
     let step = if r.once(20) { r.pick(&[0, 1, 16_777_216, 16_777_217, u32::MAX]) } else if r.once(3) { 65536 } else { 1 + r.below(400_000) as u32 };
     let most = if r.once(2) { 3000 } else { 48_000 };
     let rate = if r.once(20) { r.pick(&[0, 1, 192_000, 192_001, u32::MAX]) } else { 1 + r.below(most) as u32 };
-    let mut n = plain::start(octave, step, rate);
+    let velocity = if r.once(3) { 127 } else if r.once(10) { r.next() as u8 } else { 1 + r.below(127) as u8 };
+    let mut n = plain::start(octave, step, rate, velocity);
     if r.once(12) {
         // a note made by hand: near the last frame, or with a key-up anywhere
         n.frames = if r.once(2) { u32::MAX - r.below(40) as u32 } else { r.below(500) as u32 };
@@ -79,8 +80,8 @@ fn fresh(r: &mut make::Rng, octaves: u8) -> plain::Note {
     n
 }
 
-/// What was met: fills by the number that turned them back, and notes whose pan overrules their channel.
-struct Seen { fills: [u64; 64], overruled: u64 }
+/// What was met: fills by the number that turned them back, notes whose pan overrules their channel, and notes by their velocity.
+struct Seen { fills: [u64; 64], overruled: u64, velocities: [u64; 256] }
 
 /// One note through a list of calls, in blocks of fewer than `most` frames.
 fn case(r: &mut make::Rng, most: u64, seen: &mut Seen) {
@@ -90,8 +91,9 @@ fn case(r: &mut make::Rng, most: u64, seen: &mut Seen) {
     let sound = plain::sound(&v, &left, &right);
     seen.overruled += sound.overruled() as u64;
     let mut want = fresh(r, v.header.ct_octave);
-    let mut got = abi::note_start(want.octave, want.step, want.rate);
-    assert_eq!(got.plain(), plain::start(want.octave, want.step, want.rate));
+    seen.velocities[want.velocity as usize] += 1;
+    let mut got = abi::note_start(want.octave, want.step, want.rate, want.velocity);
+    assert_eq!(got.plain(), plain::start(want.octave, want.step, want.rate, want.velocity));
     got = abi::Note::of(want);
     for _ in 0..1 + r.below(6) {
         if r.once(4) {
@@ -132,8 +134,10 @@ fn case(r: &mut make::Rng, most: u64, seen: &mut Seen) {
 
 pub fn run(n: u64, seed: u64, most: u64) {
     let mut r = make::Rng::new(seed);
-    let mut seen = Seen { fills: [0; 64], overruled: 0 };
+    let mut seen = Seen { fills: [0; 64], overruled: 0, velocities: [0; 256] };
     for _ in 0..n { case(&mut r, most, &mut seen); }
-    println!("{n} notes, {} of them on voices whose pan overrules their channel, no difference; fills by refusal, 0 accepted:", seen.overruled);
+    let (met, softer) = (seen.velocities.iter().filter(|c| **c > 0).count(), seen.velocities[1..127].iter().sum::<u64>());
+    println!("{n} notes, {} of them on voices whose pan overrules their channel, {softer} at a velocity from 1 to 126, {met} velocities met,", seen.overruled);
+    println!("no difference; fills by refusal, 0 accepted:");
     for (i, c) in seen.fills.iter().enumerate().filter(|(_, c)| **c > 0) { println!("  {i:2} {c}"); }
 }

@@ -26,11 +26,11 @@ fn rate(mut fill: impl FnMut(&mut Vec<i16>, bool), block: usize, released: bool)
     FRAMES as f64 / best
 }
 
-fn measure(name: &str, v: &Voice, left: &[i8], right: &[i8], step: u32, released: bool) {
+fn measure(name: &str, v: &Voice, left: &[i8], right: &[i8], step: u32, velocity: u8, released: bool) {
     let sheet = rust_side::flat(v);
     let sound = plain::sound(v, left, right);
     for block in [64usize, 4096] {
-        let fresh = abi::note_start(0, step, 44_100);
+        let fresh = abi::note_start(0, step, 44_100, velocity);
         let mut n = fresh;
         let mut i = 0;
         let ours = rate(|out, up| {
@@ -42,7 +42,7 @@ fn measure(name: &str, v: &Voice, left: &[i8], right: &[i8], step: u32, released
             n = f.note;
             black_box(out);
         }, block, released);
-        let fresh = plain::start(0, step, 44_100);
+        let fresh = plain::start(0, step, 44_100, velocity);
         let mut n = fresh;
         let mut i = 0;
         let theirs = rate(|out, up| {
@@ -63,23 +63,26 @@ pub fn run() {
     let right = r.samples(1000);
     let plain_loop = Voice::default().with_header(looped(1000));
     let step = 12_000;
-    measure("held loop, no envelope", &plain_loop, &left, &[], step, false);
-    measure("held loop, more than a sample a frame", &plain_loop, &left, &[], 70_000, false);
+    measure("held loop, no envelope", &plain_loop, &left, &[], step, 127, false);
+    measure("held loop, no envelope, velocity 100", &plain_loop, &left, &[], step, 100, false);
+    measure("held loop, more than a sample a frame", &plain_loop, &left, &[], 70_000, 127, false);
+    measure("the same, velocity 100", &plain_loop, &left, &[], 70_000, 100, false);
     let attack = points(&[(50, 65536), (100, 40000), (200, 50000), (400, 45000)]);
     let release = points(&[(300, 20000), (300, 8000), (900, 0)]);
     let shaped = Voice::default().with_header(looped(1000)).with_attack(attack).with_release(release);
-    measure("attack of 4 points, release of 3", &shaped, &left, &[], step, true);
+    measure("attack of 4 points, release of 3", &shaped, &left, &[], step, 127, true);
     let segments = (0..16).map(|i| SeqnSegment { start: 4 * i, end: 4 * i + 800 }).collect();
     let sequence = Voice::default().with_header(looped(1000)).with_seqn(Some(Seqn { segments })).with_fade(Some(Fade { segment: 8 }));
-    measure("sequence of 16 segments, fade", &sequence, &left, &[], step, false);
+    measure("sequence of 16 segments, fade", &sequence, &left, &[], step, 127, false);
     let stereo = Voice::default().with_header(looped(1000)).with_channel(Some(ChannelAssignment::Stereo));
-    measure("stereo loop", &stereo, &left, &right, step, false);
+    measure("stereo loop", &stereo, &left, &right, step, 127, false);
+    measure("stereo loop, velocity 100", &stereo, &left, &right, step, 100, false);
     let text = "x".repeat(10_000);
     let long = Voice::default().with_header(looped(1000)).with_metadata(vec![("comment".to_string(), text)]);
-    measure("held loop, 10,000 bytes of text", &long, &left, &[], step, false);
+    measure("held loop, 10,000 bytes of text", &long, &left, &[], step, 127, false);
     let (short, long) = (rust_side::flat(&plain_loop), rust_side::flat(&long));
     for (name, sheet) in [("no text", &short), ("10,000 bytes of text", &long)] {
-        let n = abi::note_start(0, step, 44_100);
+        let n = abi::note_start(0, step, 44_100, 127);
         let mut best = f64::MAX;
         for _ in 0..9 {
             let t = Instant::now();

@@ -5,9 +5,9 @@ use oracle::svx::{ChannelAssignment, EgPoint, Envelope, SeqnSegment, Voice};
 pub const LAST: u64 = u32::MAX as u64;
 
 #[derive(Clone, Copy, Debug, PartialEq)]
-pub struct Note { pub octave: u8, pub step: u32, pub rate: u32, pub frames: u32, pub key_up: Option<u32> }
+pub struct Note { pub octave: u8, pub velocity: u8, pub step: u32, pub rate: u32, pub frames: u32, pub key_up: Option<u32> }
 
-pub fn start(octave: u8, step: u32, rate: u32) -> Note { Note { octave, step, rate, frames: 0, key_up: None } }
+pub fn start(octave: u8, step: u32, rate: u32, velocity: u8) -> Note { Note { octave, velocity, step, rate, frames: 0, key_up: None } }
 
 pub fn key_up(mut n: Note) -> Note {
     if n.key_up.is_none() { n.key_up = Some(n.frames); }
@@ -60,6 +60,7 @@ impl Sound<'_> {
         if n.step == 0 || n.step > 16_777_216 { return 32; }
         if n.rate == 0 || n.rate > 192_000 { return 33; }
         if n.key_up.is_some_and(|u| u > n.frames) { return 34; }
+        if n.velocity == 0 || n.velocity > 127 { return 44; }
         0
     }
 
@@ -133,7 +134,8 @@ impl Sound<'_> {
         let level = self.level(n, p)?;
         let value = |sample: i8, share: i64| {
             let x = times(sample as i64 * 256, level as i64, 65536);
-            let mut x = times(x, self.v.header.volume.min(65536) as i64, 65536);
+            let x = times(x, self.v.header.volume.min(65536) as i64, 65536);
+            let mut x = times(x, n.velocity as i64, 127);
             if let Some((b, t)) = f.fade {
                 if q as i64 >= b { x = times(x, t - q as i64, t - b); }
             }

@@ -83,7 +83,7 @@ sheet-first sheet s p frames places n e = (ap (λ j. ifSound j refuses (fillVoic
 
 -- the order
 pub order : (v : Voice) (left right : ℕ) (p : Playing) (frames places : ℕ)
-    → numbersOf (fillRules v left right p frames places) ≡ 10 ∷ 13 ∷ 18 ∷ 21 ∷ 22 ∷ 23 ∷ 24 ∷ 25 ∷ 31 ∷ 32 ∷ 33 ∷ 34 ∷ []
+    → numbersOf (fillRules v left right p frames places) ≡ 10 ∷ 13 ∷ 18 ∷ 21 ∷ 22 ∷ 23 ∷ 24 ∷ 25 ∷ 31 ∷ 32 ∷ 33 ∷ 34 ∷ 44 ∷ []
 order v left right p frames places = rw (rules-are v left right p frames places) refl
 
 -- ---- a read voice

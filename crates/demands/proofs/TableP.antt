@@ -10,7 +10,7 @@ use Rattle.envelope.specs.Envelope.{levelAt}
 use Rattle.fibonacci.proofs.Examples as fibonacci
 use Rattle.body_read.specs.Sides.{lengthsSuit}
 use Rattle.note_path.specs.Path.{pathOf, loopPath, joinedLength, allValid}
-use Rattle.note_frame.specs.Frame.{attackLevel, levelOf, fadedAt, value, frameAt, frame}
+use Rattle.note_frame.specs.Frame.{attackLevel, levelOf, fadedAt, value, frameAt, frameBy, frame}
 use Rattle.note_frame.specs.Frames.{framesFrom, interleaved, sounding}
 use Rattle.note_frame.specs.Shares.{sharesOf}
 use Rattle.note_rules.specs.Rules.{fillRules}
@@ -21,7 +21,7 @@ use Rattle.demands.proofs.Demand2.{demand2}
 
 pub tableP : TableP
 unfolding levelAt onTheWay scaledBy value fadedAt sharesOf reckonFrom fillVoice firstHolding fillRules totalSamples lengthsSuit
-    allValid joinedLength framesFrom interleaved sounding frame frameAt pathOf loopPath levelOf attackLevel heldToUnity
+    allValid joinedLength framesFrom interleaved sounding frame frameBy frameAt pathOf loopPath levelOf attackLevel heldToUnity
 tableP = record {
   up-and-down = ap gives fibonacci.rises;
   held-above = ap gives fibonacci.held-high;

@@ -13,7 +13,7 @@ use Rattle.laws.specs.Among.{Among}
 use Rattle.refusal.specs.Numbers.{fileShort, notForm, not8svx, chunkPastForm, chunkTwice, chunkLength, channelValue, noHeader, noBody}
 use Rattle.refusal.specs.Numbers.{compression, oddHalves, channelShort, octaveTotal, samplesShort}
 use Rattle.refusal.specs.Numbers.{recordCut, recordWrong, textIllFormed, sampleLengths, formLength, bufferShort}
-use Rattle.refusal.specs.Numbers.{segment, sequenceOneShot, fadeSegment, sequenceLength, oddPlaces, noOctave, step, rate, keyUp, voiceRate, noCrossing}
+use Rattle.refusal.specs.Numbers.{segment, sequenceOneShot, fadeSegment, sequenceLength, oddPlaces, noOctave, step, rate, keyUp, voiceRate, noCrossing, velocity}
 use Rattle.refusal.specs.Outcome.{Outcome, gives, refuses, answer, lengthOf, bufferAfter}
 use Rattle.refusal.specs.declared.Output.the-variants as Output
 use Rattle.field.specs.Signed.{sampleOf, byteOf}
@@ -90,11 +90,11 @@ channelChunkNumbers = chunkLength ∷ channelValue ∷ []
 abbrev pub sheetNumbers : List ℕ
 sheetNumbers = recordCut ∷ recordWrong ∷ textIllFormed ∷ []
 
--- filling a block of a note: 10, 13, 15 to 18, 21 to 25, 31 to 34
+-- filling a block of a note: 10, 13, 15 to 18, 21 to 25, 31 to 34, 44
 abbrev pub fillNumbers : List ℕ
 fillNumbers =
     compression ∷ octaveTotal ∷ recordCut ∷ recordWrong ∷ textIllFormed ∷ sampleLengths
-    ∷ segment ∷ sequenceOneShot ∷ fadeSegment ∷ sequenceLength ∷ oddPlaces ∷ noOctave ∷ step ∷ rate ∷ keyUp ∷ []
+    ∷ segment ∷ sequenceOneShot ∷ fadeSegment ∷ sequenceLength ∷ oddPlaces ∷ noOctave ∷ step ∷ rate ∷ keyUp ∷ velocity ∷ []
 
 -- an octave as WAVE: 10, 13, 15 to 18, 31, 41, 19
 abbrev pub waveNumbers : List ℕ
@@ -165,7 +165,7 @@ pub record Demand1 : Type 0 where
   pub record-at : (sheet : List ℕ) (at n : ℕ) → recordAt sheet at ≡ RecordStep.Refused n → Among n recordNumbers
   -- the record reader's advance is refused by these too, and then the reader is as it was
   pub reader-advance : (r : SheetReader) (step : RecordStep) (n : ℕ) → step ≡ RecordStep.Refused n → movedBy r step ≡ r
-  -- a note's fill is refused by 10, 13, 15 to 18, 21 to 25 or 31 to 34, and then the note and the buffer are as they were
+  -- a note's fill is refused by 10, 13, 15 to 18, 21 to 25, 31 to 34 or 44, and then the note and the buffer are as they were
   pub note-fill : (sheet : List ℕ) (sides : Sides) (note : Note) (buffer : List ℤ) (n : ℕ) → afterFill sheet sides note buffer .answer ≡ Answer.Refused n
       → Among n fillNumbers × (afterFill sheet sides note buffer .note ≡ note) × (afterFill sheet sides note buffer .buffer ≡ buffer)
   -- make_calls is refused by 20 alone, and then both buffers are as they were

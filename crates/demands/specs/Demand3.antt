@@ -11,7 +11,7 @@ use lib.IntN.{ℤ}
 use lib.ListN.{length, take}
 use Rattle.laws.specs.Among.{Among}
 use Rattle.laws.specs.Buffer.{written}
-use Rattle.refusal.specs.Numbers.{segment, sequenceOneShot, fadeSegment, sequenceLength, oddPlaces, noOctave, step, rate}
+use Rattle.refusal.specs.Numbers.{segment, sequenceOneShot, fadeSegment, sequenceLength, oddPlaces, noOctave, step, rate, velocity}
 use Rattle.refusal.specs.Outcome.{gives, refuses}
 use Rattle.refusal.specs.Rules.{Holds, NoneHolds, numbersOf}
 use Rattle.field.specs.BigEndian.{Bytes}
@@ -22,6 +22,8 @@ use Rattle.sheet.specs.Voice as sheet
 use Rattle.sheet.specs.declared.judge.Judged.the-variants as Judged
 use Rattle.body_read.specs.Sides.{Sides}
 use Rattle.note_frame.specs.declared.chain.Frame.{Frame}
+use Rattle.note_frame.specs.Velocity.{frameWithoutVelocity}
+use Rattle.note_frame.specs.declared.playing.Key.{Key}
 use Rattle.note_frame.specs.declared.playing.Playing.{Playing}
 use Rattle.note_rules.specs.Rules.{fillRules}
 use Rattle.note.specs.Fill.{fillSheet}
@@ -29,14 +31,14 @@ use Rattle.note.specs.Note.{startOf}
 use Rattle.note.specs.declared.Answer.{Answer}
 use Rattle.note.specs.declared.Answer.the-variants as Answer
 use Rattle.note.specs.declared.Note.{Note}
-use Rattle.note_calls.specs.Play.{HostCall, fillBuffer, keyUpNow, PutOut, play}
+use Rattle.note_calls.specs.Play.{HostCall, fillBuffer, keyUpNow, PutOut, play, lastNote}
 use Rattle.note_calls.specs.Made.{isKeyUp, answerNumber, roomFor, afterCalls}
 use Rattle.voice_read.specs.Parsed.{Lent, afterReading}
 use Rattle.voice_read.specs.ReadVoice.{Reading, readVoice}
 use Rattle.voice_read.specs.declared.chunks.Lengths.{Lengths}
 use Rattle.voice_read.specs.declared.chunks.Parsed.the-variants.{Voice}
 use Rattle.demands.specs.Demand1.{sheetNumbers}
-use Rattle.demands.specs.Reckoning.{Call, fill, keyUp, Started, reckonFrom, atFirst, reckon, OneNote}
+use Rattle.demands.specs.Reckoning.{Call, fill, keyUp, Started, playing, reckonFrom, atFirst, reckon, noteFrame, OneNote}
 
 -- ---- what the reckoning is told
 
@@ -61,7 +63,7 @@ sidesRead file b l = record { left = take (l .left) (afterReading file b .buffer
 
 -- as starting returned it
 abbrev pub freshNote : Started → Note
-freshNote s = startOf (s .octave) (s .step) (s .rate)
+freshNote s = startOf (s .octave) (s .step) (s .rate) (s .velocity)
 
 -- a reading of a file of bytes that was accepted, into these buffers, with these lengths
 pub record WasRead (file : List ℕ) (b : Lent) (l : Lengths) : Type 0 where
@@ -70,9 +72,9 @@ pub record WasRead (file : List ℕ) (b : Lent) (l : Lengths) : Type 0 where
 
 -- ---- rules
 
--- the numbers that can turn back a fill on a read voice: 21 to 25, 31 to 33
+-- the numbers that can turn back a fill on a read voice: 21 to 25, 31 to 33, 44
 abbrev pub readVoiceNumbers : List ℕ
-readVoiceNumbers = segment ∷ sequenceOneShot ∷ fadeSegment ∷ sequenceLength ∷ oddPlaces ∷ noOctave ∷ step ∷ rate ∷ []
+readVoiceNumbers = segment ∷ sequenceOneShot ∷ fadeSegment ∷ sequenceLength ∷ oddPlaces ∷ noOctave ∷ step ∷ rate ∷ velocity ∷ []
 
 -- an answer that isn't refused, or by one of these
 abbrev pub RefusedAmong : List ℕ → Answer → Type 0
@@ -96,6 +98,11 @@ pub record Demand3 : Type 0 where
   -- and so does the list of calls itself
   pub played-note : (file : List ℕ) (b : Lent) (l : Lengths) (s : Started) (calls : List HostCall) (r : Reading) → WasRead file b l → readVoice file ≡ gives r
       → OneNote r s (map toldOf calls) (play (sheetRead file b l) (sidesRead file b l) (freshNote s) calls)
+  -- struck at 127, that note's frames are what the value chain without the velocity's step gives
+  pub full-velocity : (r : Reading) (s : Started) (key : Key) (p : ℕ) → s .velocity ≡ 127
+      → noteFrame r s key p ≡ frameWithoutVelocity (r .voice) (r .sides) (playing s key) p
+  -- every list of calls, refused ones included, keeps the velocity
+  pub velocity-kept : (sheet : List ℕ) (s : Sides) (n : Note) (calls : List HostCall) → lastNote sheet s n calls .playing .velocity ≡ n .playing .velocity
   -- a read voice is never refused by 10, 13, 15 to 18 or 34
   pub read-voice : (file : List ℕ) (r : Reading) (s : Started) (calls : List Call) → Bytes file → readVoice file ≡ gives r
       → All (RefusedAmong readVoiceNumbers) (reckonFrom r s atFirst calls .answers)
@@ -104,7 +111,7 @@ pub record Demand3 : Type 0 where
       → (fillSheet sheet s n frames places ≡ refuses number) × Among number sheetNumbers
   -- the rules, in the order in which they are judged
   pub order : (v : sheet.Voice) (left right : ℕ) (n : Playing) (frames places : ℕ)
-      → numbersOf (fillRules v left right n frames places) ≡ 10 ∷ 13 ∷ 18 ∷ 21 ∷ 22 ∷ 23 ∷ 24 ∷ 25 ∷ 31 ∷ 32 ∷ 33 ∷ 34 ∷ []
+      → numbersOf (fillRules v left right n frames places) ≡ 10 ∷ 13 ∷ 18 ∷ 21 ∷ 22 ∷ 23 ∷ 24 ∷ 25 ∷ 31 ∷ 32 ∷ 33 ∷ 34 ∷ 44 ∷ []
   -- any fill is refused only by a rule that holds: the sheet's verdict, or one of the rules
   pub by-a-rule : (sheet : List ℕ) (s : Sides) (n : Playing) (frames places number : ℕ) → fillSheet sheet s n frames places ≡ refuses number
       → (judged sheet ≡ Judged.Refused number)

@@ -26,12 +26,13 @@ pub data Call : Type 0 where
 -- what starting was given
 pub record Started : Type 0 where
   pub octave : ℕ
+  pub velocity : ℕ
   pub step : ℕ
   pub rate : ℕ
 
 -- the note that was started so, with this key
 abbrev pub playing : Started → Key → Playing
-playing s key = record { octave = s .octave; step = s .step; rate = s .rate; key = key }
+playing s key = record { octave = s .octave; velocity = s .velocity; step = s .step; rate = s .rate; key = key }
 
 -- n, the frames put out, and u, the key-up frame; held while there is none
 pub record State : Type 0 where

@@ -64,13 +64,13 @@ pub record TableP : Type 0 where
   -- 65 octaves: 13
   pub octave-past-it : total (oneSample 65) ≡ Refused octaveTotal
   -- sample -2, all full: -512
-  pub all-full : value exampleVoice 0 0 65536 (negsuc 1) 65536 ≡ negsuc 511
+  pub all-full : value exampleVoice 0 127 0 65536 (negsuc 1) 65536 ≡ negsuc 511
   -- the whole file reads as its voice and its sample
   pub whole-file-read : readVoice exampleFile ≡ gives (record { voice = exampleVoice; sides = exampleSides })
   -- and they write as the file
   pub whole-file-written : writeVoice exampleVoice exampleSides ≡ gives exampleFile
   -- a block of two frames of it is -512 on both sides, then over
-  pub whole-file-played : reckon exampleFile (record { octave = 0; step = 65536; rate = 8000 }) (fill 4 ∷ [])
+  pub whole-file-played : reckon exampleFile (record { octave = 0; velocity = 127; step = 65536; rate = 8000 }) (fill 4 ∷ [])
       ≡ gives (record { answers = Answer.Sounding 1 ∷ []; blocks = negsuc 511 ∷ negsuc 511 ∷ pos 0 ∷ pos 0 ∷ [] })
 
 -- what samples become by being written and decoded: as many as they were

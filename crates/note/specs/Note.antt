@@ -6,8 +6,8 @@ use Rattle.note_frame.specs.declared.playing.Key.the-variants.{Held, Released}
 use Rattle.note.specs.declared.Note.{Note}
 
 -- a fresh note: no frames filled, held
-abbrev pub startOf : ℕ → ℕ → ℕ → Note
-startOf octave step rate = record { playing = record { octave = octave; step = step; rate = rate; key = Held }; frames = 0 }
+abbrev pub startOf : ℕ → ℕ → ℕ → ℕ → Note
+startOf octave step rate velocity = record { playing = record { octave = octave; velocity = velocity; step = step; rate = rate; key = Held }; frames = 0 }
 
 -- only the first key-up counts
 abbrev pub keyAfter : Key → ℕ → Key

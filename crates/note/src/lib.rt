@@ -14,7 +14,7 @@ ghost use Rattle.sheet.specs.declared.judge.Judged.the-variants.{Sound};
 ghost use Rattle.note.specs.Note.{startOf, keyAfter, keyUpOf, advanceOf};
 ghost use Rattle.note.specs.Fill.{fillVoice, fillLeaves, afterFill};
 
-// A note: how it plays (octave, step, output rate, held or released), and the frames filled.
+// A note: how it plays (octave, velocity, step, output rate, held or released), and the frames filled.
 pub struct Note {
     pub playing: Playing,
     pub frames: u32,
@@ -44,11 +44,12 @@ fn released_at(key: Key, frame: u32) -> Key
 
 impl Note {
     // A fresh note: no frames filled, held. Whatever it is given it keeps, and a fill judges it.
-    pub fn start(octave: u8, step: u32, rate: u32) -> Self
-        ensures { λ r. ⌜ r ≡ startOf octave step rate ⌝ }
+    pub fn start(octave: u8, step: u32, rate: u32, velocity: u8) -> Self
+        ensures { λ r. ⌜ r ≡ startOf octave step rate velocity ⌝ }
     {
         let playing = Playing {
             octave,
+            velocity,
             step,
             rate,
             key: Key::Held,
@@ -65,6 +66,7 @@ impl Note {
         let key = released_at(before, self.frames);
         let playing = Playing {
             octave: p.octave,
+            velocity: p.velocity,
             step: p.step,
             rate: p.rate,
             key,
@@ -122,7 +124,7 @@ impl Note {
     }
 
     // Fills a buffer with the next block, left and right values by turns; answers how many of its frames aren't over. 15 to 17, 10, 13,
-    // 18, 21 to 25, 31 to 34; a refused fill changes neither the buffer nor the note.
+    // 18, 21 to 25, 31 to 34, 44; a refused fill changes neither the buffer nor the note.
     pub fn fill(self, sheet: &[u8], left: &[i8], right: &[i8], out: &mut [i16]) -> Filled
         ensures answer { λ r. ⌜ r .answer ≡ afterFill (now (sheet .entry)) (record { left = now (left .entry); right = now (right .entry) }) self (now (out .entry)) .answer ⌝ }
         ensures note { λ r. ⌜ r .note ≡ afterFill (now (sheet .entry)) (record { left = now (left .entry); right = now (right .entry) }) self (now (out .entry)) .note ⌝ }

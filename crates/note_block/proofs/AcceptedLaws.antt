@@ -5,6 +5,7 @@
 --     even-places, slow-step                the buffer and the step
 --     some-rate, slow-rate                  the rate
 --     key-up-then                           a key-up isn't ahead of the frames filled
+--     most-velocity                         the velocity
 -- Assumes nothing.
 use Prim.Native.Nat.{ℕ, _+_, _-_, _*_, _%_, _≤_, _<_, _^_}
 use mathlib.Core.Bool.{Bool, true, false, cond, not, _||_}
@@ -81,12 +82,14 @@ fade-among none sequence k among short = tt
 fade-among (some f) (some segments) k among short = short
 fade-among (some f) none k among short = absurd (omega (arith, ltb-true (f .segment) 0 (not-false (ltb (f .segment) 0) among)))
 
-pub fade-ends : (v : Voice) (n k : ℕ) → gainsOf v k .fades ≡ true → (q i : ℕ) → pathOf (v .sequence) (v .header) n k q ≡ some i → q < gainsOf v k .«path_length»
-fade-ends v n k fades q i = go (v .sequence) refl
+pub fade-ends : (v : Voice) (n k velocity : ℕ) →
+    let g = gainsOf v k velocity in
+    g .fades ≡ true → (q i : ℕ) → pathOf (v .sequence) (v .header) n k q ≡ some i → q < g .«path_length»
+fade-ends v n k velocity fades q i = go (v .sequence) refl
   where
-    go : (sequence : Option (List SeqnSegment)) → v .sequence ≡ sequence → pathOf sequence (v .header) n k q ≡ some i → q < gainsOf v k .«path_length»
-    go none e there = let not : gainsOf v k .fades ≡ false = gains-no-fade v k e in impossible cc
-    go (some segments) e there = omega (arith, gains-fade v k segments e fades, sequence-ends segments (v .header) n k q i there)
+    go : (sequence : Option (List SeqnSegment)) → v .sequence ≡ sequence → pathOf sequence (v .header) n k q ≡ some i → q < gainsOf v k velocity .«path_length»
+    go none e there = let not : gainsOf v k velocity .fades ≡ false = gains-no-fade v k velocity e in impossible cc
+    go (some segments) e there = omega (arith, gains-fade v k velocity segments e fades, sequence-ends segments (v .header) n k q i there)
 
 -- ---- what none of the rules leaves
 
@@ -139,3 +142,6 @@ module _ (v : Voice) (left right : ℕ) (n : Playing) (frames places : ℕ) (acc
 
   pub key-up-then : keyUpAhead (n .key) frames ≡ false
   key-up-then = parts .note .1 .1 .1 .0
+
+  pub most-velocity : n .velocity ≤ 127
+  most-velocity = ltb-false 127 (n .velocity) (neither (eqb (n .velocity) 0) (ltb 127 (n .velocity)) (parts .note .1 .1 .1 .1 .0) .1)

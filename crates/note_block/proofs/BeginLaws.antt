@@ -35,7 +35,7 @@ use Rattle.note_rules.proofs.SequenceLaws.{part-segments, part-whole}
 use Rattle.note_block.specs.Block.{sequencePart, BlockReady}
 use Rattle.note_block.specs.Stages.{isThere}
 use Rattle.note_block.proofs.SheetLaws.{segments-at, sequence-is}
-use Rattle.note_block.proofs.AcceptedLaws.{in-octave, fade-fits, fade-ends, sides-same, slow-step, some-rate, slow-rate, key-up-then}
+use Rattle.note_block.proofs.AcceptedLaws.{in-octave, fade-fits, fade-ends, sides-same, slow-step, some-rate, slow-rate, key-up-then, most-velocity}
 
 module _ (n : Playing) (frames places : ℕ) (sheet : List ℕ) (l : Layout) (left right : List ℤ) (bytes : (i : ℕ) → Fits w8 (getD sheet i 0)) (sound : judged sheet ≡ Sound)
     (is : l ≡ layoutOf (readSheet sheet)) (accepted : firstHolding (fillRules (readSheet sheet) (length left) (length right) n frames places) ≡ 0) (small : length left < 2 ^ 63) where
@@ -55,7 +55,7 @@ module _ (n : Playing) (frames places : ℕ) (sheet : List ℕ) (l : Layout) (le
           ∙ ap (λ (h : VoiceHeader). pathOf (sequenceIn there (between (l .sequence) (l .fade) sheet)) h (length left) (n .octave) q) header
           ∙ ap (λ (o : Option (List SeqnSegment)). pathOf o (readSheet sheet .header) (length left) (n .octave) q) (sequence-is sheet bytes sound l is answer there answered told)
 
-      pub block-ready : (g : Gains) (d : ℕ) (out : List ℤ) → g ≡ gainsOf (readSheet sheet) (n .octave) → frames ≤ 4294967295
+      pub block-ready : (g : Gains) (d : ℕ) (out : List ℤ) → g ≡ gainsOf (readSheet sheet) (n .octave) (n .velocity) → frames ≤ 4294967295
           → d ≡ min (length out / 2) (4294967295 - frames) → BlockReady n frames sheet l g path left right d out
       block-ready g d out gains-are counted part =
           rw gains-are
@@ -63,12 +63,12 @@ module _ (n : Playing) (frames places : ℕ) (sheet : List ℕ) (l : Layout) (le
             sound = sound;
             layout-is = is;
             gains-are = refl;
-            bounded = gains-bounded (readSheet sheet) (n .octave);
+            bounded = gains-bounded (readSheet sheet) (n .octave) (n .velocity) (most-velocity (readSheet sheet) (length left) (length right) n frames places accepted);
             sane = subst (Sane path) (segments-at sheet bytes sound l is) (made .sane);
             samples-are = made .samples-are;
             place-is = place-is;
-            sides-are = λ two. omega (arith, sides-same (readSheet sheet) (length left) (length right) n frames places accepted (sym (gains-stereo (readSheet sheet) (n .octave)) ∙ two));
-            fade-ends = λ fades q i e. fade-ends (readSheet sheet) (length left) (n .octave) fades q i (sym (place-is q) ∙ e);
+            sides-are = λ two. omega (arith, sides-same (readSheet sheet) (length left) (length right) n frames places accepted (sym (gains-stereo (readSheet sheet) (n .octave) (n .velocity)) ∙ two));
+            fade-ends = λ fades q i e. fade-ends (readSheet sheet) (length left) (n .octave) (n .velocity) fades q i (sym (place-is q) ∙ e);
             rate-some = some-rate (readSheet sheet) (length left) (length right) n frames places accepted;
             rate-fits = slow-rate (readSheet sheet) (length left) (length right) n frames places accepted;
             step-fits = slow-step (readSheet sheet) (length left) (length right) n frames places accepted;

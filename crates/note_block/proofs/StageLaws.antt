@@ -29,7 +29,7 @@ attack-in : (v : Voice) (rate : ℕ) (attack : List ℕ) → pointsIn attack ≡
 attack-in v rate attack e p = rw (attack-is v rate p, e)
 
 -- gains and path are the voice's
-module _ (v : Voice) (n : Playing) (left right : List ℤ) (g : Gains) (path : Path) (segments : List ℕ) (gains-are : g ≡ gainsOf v (n .octave))
+module _ (v : Voice) (n : Playing) (left right : List ℤ) (g : Gains) (path : Path) (segments : List ℕ) (gains-are : g ≡ gainsOf v (n .octave) (n .velocity))
     (place-is : (q : ℕ) → placeOf path segments q ≡ pathOf (v .sequence) (v .header) (length left) (n .octave) q) where
   -- a stage whose level is the note's
   stage-frame : (s : Stage) (points : List ℕ) (key : Key) (p : ℕ) → s .step ≡ n .step → p < 4294967295

@@ -30,7 +30,7 @@ sequencePart sheet = between (sequenceAt (readSheet sheet)) (fadeAt (readSheet s
 pub record BlockReady (n : Playing) (frames : ℕ) (sheet : List ℕ) (l : Layout) (g : Gains) (path : Path) (left right : List ℤ) (d : ℕ) (out : List ℤ) : Type 0 where
   pub sound : judged sheet ≡ Sound
   pub layout-is : l ≡ layoutOf (readSheet sheet)
-  pub gains-are : g ≡ gainsOf (readSheet sheet) (n .octave)
+  pub gains-are : g ≡ gainsOf (readSheet sheet) (n .octave) (n .velocity)
   pub bounded : Bounded g
   pub sane : Sane path (sequencePart sheet)
   pub samples-are : path .samples ≡ length left

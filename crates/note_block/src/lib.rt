@@ -93,7 +93,7 @@ pub fn next_block(
         segments,
         left.len(),
     );
-    let g = gains_of(sheet, l, n.octave);
+    let g = gains_of(sheet, l, n.octave, n.velocity);
     let room = 4294967295 - frames as usize;
     let d = least(out.len() / 2, room);
     let count = play_stage(n, frames, sheet, l, g, path, left, right, d, out);

@@ -5,6 +5,7 @@
 --     fill-put, answer-put                          where its block and its answer are stored
 --     none-blocks, none-answers, none-note          no call
 --     within-places, within-answers                 what a call puts out has room
+--     velocity-stays                                the velocity, which no call changes
 -- Assumes nothing.
 use Prim.Native.Nat.{ℕ, _+_, _≤_}
 use mathlib.Core.Bool.{Bool, true, false, cond}
@@ -17,7 +18,10 @@ use lib.ListN.{length, set}
 use lib.Seq.{sets}
 use Rattle.laws.specs.Put.{Put}
 use Rattle.body_read.specs.Sides.{Sides}
-use Rattle.note.specs.Fill.{afterFill}
+use Rattle.refusal.specs.Outcome.{Outcome, gives, refuses}
+use Rattle.note_frame.specs.declared.chain.Frame.{Frame}
+use Rattle.note_frame.specs.declared.playing.Playing.{Playing}
+use Rattle.note.specs.Fill.{fillSheet, fillLeaves, afterFill}
 use Rattle.note.specs.Note.{keyUpOf}
 use Rattle.note.specs.declared.Answer.{Answer}
 use Rattle.note.specs.declared.Note.{Note}
@@ -111,3 +115,18 @@ module _ (sheet : List ℕ) (s : Sides) (n : Note) where
         go : (t : Bool) → isKeyUp call ≡ t → length (play sheet s n (hostCalls (call ∷ [])) .answers) ≡ cond t 0 1
         go true e = rw (key-up-puts (eqb-true call keyUpNumber e))
         go false e = rw (fill-answers (eqb-false call keyUpNumber e))
+
+-- ---- the velocity
+
+-- a fill leaves how the note plays
+fill-plays : (o : Outcome (List Frame)) (n : Note) (buffer : List ℤ) → fillLeaves o n buffer .note .playing ≡ n .playing
+fill-plays (gives block) n buffer = refl
+fill-plays (refuses number) n buffer = refl
+
+pub velocity-stays : (sheet : List ℕ) (s : Sides) (n : Note) (calls : List HostCall) → lastNote sheet s n calls .playing .velocity ≡ n .playing .velocity
+unfolding lastNote
+velocity-stays sheet s n [] = refl
+velocity-stays sheet s n (fillBuffer b ∷ calls) =
+    let same = fill-plays (fillSheet sheet s (n .playing) (n .frames) (length b)) n b in
+    velocity-stays sheet s (afterFill sheet s n b .note) calls ∙ ap (λ (p : Playing). p .velocity) same
+velocity-stays sheet s n (keyUpNow ∷ calls) = velocity-stays sheet s (keyUpOf n) calls

@@ -36,11 +36,11 @@ faded-fits g q x f = go (g .fades) (leb (g .«fade_start») q) refl
     go true false e = f
     go true true e = scaled-fits x (end - q) (end - start) (omega (arith, leb-true start q e)) f
 
-pub before-sides-fits : (g : Gains) (level q : ℕ) (s : ℤ) → level ≤ 65536 → g .volume ≤ 65536 → SFits w8 s → SFits w16 (beforeSides g level q s)
+pub before-sides-fits : (g : Gains) (level q : ℕ) (s : ℤ) → level ≤ 65536 → g .volume ≤ 65536 → g .velocity ≤ 127 → SFits w8 s → SFits w16 (beforeSides g level q s)
 unfolding beforeSides
-before-sides-fits g level q s h₁ h₂ f =
+before-sides-fits g level q s h₁ h₂ h₃ f =
     let whole : SFits w16 (s *ℤ pos 256) = omega (zarith, known f, times s 256) in
-    faded-fits g q _ (scaled-fits _ (g .volume) 65536 h₂ (scaled-fits _ level 65536 h₁ whole))
+    faded-fits g q _ (scaled-fits _ (g .velocity) 127 h₃ (scaled-fits _ (g .volume) 65536 h₂ (scaled-fits _ level 65536 h₁ whole)))
 
 -- ---- what a frame is
 

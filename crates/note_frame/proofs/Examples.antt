@@ -2,6 +2,7 @@
 -- Assumes nothing.
 use Prim.Native.Nat.{ℕ}
 use mathlib.Core.Bool.{Bool, true, false}
+use mathlib.Core.List.{[], _∷_}
 use mathlib.Core.Option.{Option, none, some}
 use mathlib.Core.Path.{_≡_, refl}
 use lib.IntN.{ℤ, pos, negsuc}
@@ -10,14 +11,15 @@ use Rattle.small_chunks.specs.declared.channel.ChannelAssignment.the-variants.{
 use Rattle.small_chunks.specs.declared.pan.Pan.{Pan}
 use Rattle.envelope.specs.Level.{scaledBy}
 use Rattle.note_frame.specs.declared.chain.Gains.{Gains}
-use Rattle.note_frame.specs.Gains.{fadedWith, beforeSides, valueWith}
+use Rattle.note_frame.specs.Gains.{fadedWith, beforeSides, valueWith, frameWith}
 use Rattle.note_frame.specs.Shares.{sharesOf}
 use Rattle.note_frame.specs.declared.shares.Shares.{Shares}
 
--- full volume and shares, one channel; with a fade, it goes from step 2 to step 6
-abbrev pub full : Bool → Gains
-full fades = record {
-  volume = 65536;
+-- a volume and a velocity with full shares, one channel; with a fade, it goes from step 2 to step 6
+abbrev pub gained : ℕ → ℕ → Bool → Gains
+gained volume velocity fades = record {
+  volume = volume;
+  velocity = velocity;
   «left_share» = 65536;
   «right_share» = 65536;
   stereo = false;
@@ -25,6 +27,10 @@ full fades = record {
   «fade_start» = 2;
   «path_length» = 6;
 }
+
+-- full volume, struck as hard as can be
+abbrev pub full : Bool → Gains
+full = gained 65536 127
 
 -- -2 at full level is -512
 pub whole : valueWith (full false) 65536 0 (negsuc 1) 65536 ≡ negsuc 511
@@ -50,6 +56,28 @@ fade-begins = refl
 pub fade-ends : valueWith (full true) 65536 5 (pos 1) 65536 ≡ pos 64
 unfolding valueWith beforeSides fadedWith scaledBy
 fade-ends = refl
+
+-- ---- velocity
+
+-- -512 × 64 / 127 is cut to -258; rounded down, it would be -259, and divided by 128, -256
+pub struck-half : valueWith (gained 65536 64 false) 65536 0 (negsuc 1) 65536 ≡ negsuc 257
+unfolding valueWith beforeSides fadedWith scaledBy
+struck-half = refl
+
+-- three quarters of 256 by the volume, then × 100 / 127: 151; with the velocity before the volume it would be 150
+pub after-volume : valueWith (gained 49152 100 false) 65536 0 (pos 1) 65536 ≡ pos 151
+unfolding valueWith beforeSides fadedWith scaledBy
+after-volume = refl
+
+-- 256 × 100 / 127, then three quarters of it by the fade: 150; with the velocity after the fade it would be 151
+pub before-fade : valueWith (gained 65536 100 true) 65536 3 (pos 1) 65536 ≡ pos 150
+unfolding valueWith beforeSides fadedWith scaledBy
+before-fade = refl
+
+-- 1 × 126 / 127 is cut to 0, on both sides of a frame that isn't over
+pub cut-to-0 : frameWith (gained 65536 126 false) (pos 1 ∷ []) [] 0 (some 0) (some 256) ≡ record { left = pos 0; right = pos 0; sounds = true }
+unfolding frameWith valueWith beforeSides fadedWith scaledBy
+cut-to-0 = refl
 
 -- ---- channel and pan
 

@@ -4,14 +4,15 @@
 --     attack-is, level-held, level-released   its level: of the attack, or from a key-up on of the release
 --     frame-before, frame-put                 frames before a key-up
 --     frame-capped                            frames counted from 4,294,967,295 at most
+--     both-frames                             what holds of two frames that are over and of two that sound, of every frame by two chains
 -- Assumes nothing.
 use Prim.Native.Nat.{ℕ, _+_, _≤_, _<_, min}
 use mathlib.Core.Bool.{Bool, true, false, cond}
-use mathlib.Core.Option.{none, some}
+use mathlib.Core.Option.{Option, none, some}
 use mathlib.Core.Path.{_≡_, refl, sym, _∙_}
 use native.Mathlib.Omega.{arith}
 use borrow.Author.Tests.{lt-leb, le-leb, lt-ltb, le-ltb, leb-true, leb-false}
-use lib.Dec.{leb}
+use lib.Dec.{leb, ltb}
 use lib.IntN.{pos}
 use lib.ListN.{length}
 use Rattle.small_chunks.specs.Pan.{heldToUnity}
@@ -24,7 +25,7 @@ use Rattle.note_frame.specs.Gains.{gainsOf, frameWith}
 use Rattle.note_frame.specs.declared.chain.Frame.{Frame}
 use Rattle.note_frame.specs.declared.playing.Key.{Key}
 use Rattle.note_frame.specs.declared.playing.Key.the-variants.{Held, Released}
-use Rattle.note_frame.specs.Frame.{stepOf, msSince, startLevel, attackLevel, releaseLevel, levelOf, silent, withKey, frame}
+use Rattle.note_frame.specs.Frame.{stepOf, msSince, startLevel, attackLevel, releaseLevel, levelOf, silent, withKey, Chain, frameAt, frameBy, frame}
 use Rattle.note_frame.specs.declared.playing.Playing.{Playing}
 use Rattle.note_frame.proofs.GainsLaws.{frame-gains}
 
@@ -46,21 +47,43 @@ module _ (v : Voice) (rate : ℕ) where
   unfolding levelOf releaseLevel
   level-released u p h = rw (le-leb u p h)
 
+-- ---- two chains
+
+-- where a frame's sample lies
+abbrev placed : Voice → Sides → Playing → ℕ → Option ℕ
+placed v s n p = pathOf (v .sequence) (v .header) (length (s .left)) (n .octave) (stepOf (n .step) p)
+
+-- two voices in which it lies at the same place, at the same level, have frames that are over together
+module _ (v w : Voice) (s : Sides) (c d : Chain) (n : Playing) (p : ℕ) (P : Frame → Frame → Type 0) where
+  pub both-frames : placed v s n p ≡ placed w s n p → levelOf v (n .rate) (n .key) p ≡ levelOf w (n .rate) (n .key) p → P silent silent
+      → ((q i level : ℕ) → P (frameAt v s c q (some i) (some level)) (frameAt w s d q (some i) (some level)))
+      → P (frameBy v s c n p) (frameBy w s d n p)
+  unfolding frameBy frameAt
+  both-frames e e₂ over sounds = rw (e, e₂) (go (ltb p 4294967295) (placed w s n p) (levelOf w (n .rate) (n .key) p))
+    where
+      q : ℕ
+      q = stepOf (n .step) p
+
+      go : (t : Bool) (place level : Option ℕ) → P (cond t (frameAt v s c q place level) silent) (cond t (frameAt w s d q place level) silent)
+      go true (some i) (some level) = sounds q i level
+      go true (some i) none = over
+      go true none level = over
+      go false place level = over
+
 -- ---- the frame
 
 module _ (v : Voice) (s : Sides) (n : Playing) where
-  -- the frame of a step, by the gains
-  abbrev atStep : ℕ → ℕ → Frame
-  atStep q p = frameWith (gainsOf v (n .octave)) (s .left) (s .right) q (pathOf (v .sequence) (v .header) (length (s .left)) (n .octave) q) (levelOf v (n .rate) (n .key) p)
+  -- the frame by the gains
+  abbrev by-gains : ℕ → Frame
+  by-gains p = frameWith (gainsOf v (n .octave) (n .velocity)) (s .left) (s .right) (stepOf (n .step) p) (placed v s n p) (levelOf v (n .rate) (n .key) p)
 
-  pub frame-is : (p : ℕ) → p < 4294967295 → frame v s n p ≡ atStep (stepOf (n .step) p) p
-  unfolding frame
+  pub frame-is : (p : ℕ) → p < 4294967295 → frame v s n p ≡ by-gains p
+  unfolding frame frameBy
   frame-is p h =
-      let q = stepOf (n .step) p in
-      rw (lt-ltb p 4294967295 h) (sym (frame-gains v s (n .octave) q (pathOf (v .sequence) (v .header) (length (s .left)) (n .octave) q) (levelOf v (n .rate) (n .key) p)))
+      rw (lt-ltb p 4294967295 h) (sym (frame-gains v (n .octave) (n .velocity) s (stepOf (n .step) p) (placed v s n p) (levelOf v (n .rate) (n .key) p)))
 
   pub frame-last : (p : ℕ) → 4294967295 ≤ p → frame v s n p ≡ silent
-  unfolding frame
+  unfolding frame frameBy
   frame-last p h = rw (le-ltb p 4294967295 h)
 
   -- a frame counted from m, or from 4,294,967,295 where m is past it
@@ -81,7 +104,7 @@ module _ (v : Voice) (s : Sides) (n : Playing) where
   keyed key = frame v s (withKey n key)
 
   pub frame-before : (u p : ℕ) → p < u → keyed (Released u) p ≡ keyed Held p
-  unfolding frame levelOf
+  unfolding frame frameBy levelOf
   frame-before u p h = rw (lt-leb u p h)
 
   -- a key-up at the frames put out, or at 4,294,967,295, changes none of them

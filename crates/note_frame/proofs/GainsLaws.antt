@@ -1,5 +1,5 @@
--- What doesn't change from frame to frame: no factor is above 65,536, and a fade needs a sequence and ends with its path.
---     gains-bounded                     no factor is above 65,536
+-- What doesn't change from frame to frame: no factor is above 65,536 nor the velocity above 127, and a fade needs a sequence and ends with its path.
+--     gains-bounded                  no factor is above 65,536, nor the velocity above 127
 --     gains-stereo                   each side has its own samples exactly if the channel says so
 --     gains-fade, gains-no-fade      a fade ends with the path of the sequence; without a sequence there is none
 --     gains-unfaded, gains-faded     the gains by what the voice has: no proof past this file unfolds `gainsOf`
@@ -27,7 +27,7 @@ use Rattle.body_read.specs.Sides.{Sides}
 use Rattle.sheet.specs.Voice.{Voice, isStereo}
 use Rattle.note_path.specs.Path.{joinedLength}
 use Rattle.note_path.proofs.LengthLaws.{scaled-length}
-use Rattle.note_frame.specs.Frame.{volumeOf, shareOf, fadedIn, fadedAt, value, frameAt}
+use Rattle.note_frame.specs.Frame.{volumeOf, fadedIn, fadedAt, value, frameAt}
 use Rattle.note_frame.specs.declared.chain.Gains.{Gains}
 use Rattle.note_frame.specs.Shares.{sharesOf}
 use Rattle.note_frame.specs.declared.shares.Shares.{Shares}
@@ -36,14 +36,16 @@ use Rattle.note_frame.proofs.SharesLaws.{shares-held}
 
 -- ---- by what the voice has
 
-pub gains-unfaded : (v : Voice) (k : ℕ) → v .fade ≡ none → gainsOf v k ≡ unfaded v
+pub gains-unfaded : (v : Voice) (k velocity : ℕ) → v .fade ≡ none → gainsOf v k velocity ≡ unfaded v velocity
 unfolding gainsOf
-gains-unfaded v k e = ap (λ (o : Option Fade). fadedBy (unfaded v) o (v .sequence) k) e
+gains-unfaded v k velocity e = ap (λ (o : Option Fade). fadedBy (unfaded v velocity) o (v .sequence) k) e
 
-pub gains-faded : (v : Voice) (k : ℕ) (f : Fade) (segments : List SeqnSegment) → v .fade ≡ some f → v .sequence ≡ some segments → gainsOf v k ≡ withFade (unfaded v) f segments k
+pub gains-faded : (v : Voice) (k velocity : ℕ) (f : Fade) (segments : List SeqnSegment) → v .fade ≡ some f → v .sequence ≡ some segments
+    → gainsOf v k velocity ≡ withFade (unfaded v velocity) f segments k
 unfolding gainsOf
-gains-faded v k f segments e e₂ =
-    ap (λ (o : Option Fade). fadedBy (unfaded v) o (v .sequence) k) e ∙ ap (λ (o : Option (List SeqnSegment)). fadedBy (unfaded v) (some f) o k) e₂
+gains-faded v k velocity f segments e e₂ =
+    let g = unfaded v velocity in
+    ap (λ (o : Option Fade). fadedBy g o (v .sequence) k) e ∙ ap (λ (o : Option (List SeqnSegment)). fadedBy g (some f) o k) e₂
 
 -- where the sheet answers with a fade, the voice has it, and where it answers with none, the voice has none
 module _ (o : Option Fade) where
@@ -61,93 +63,106 @@ module _ (o : Option Fade) where
       go (some g) e = impossible cc
       go none e = refl
 
--- volume and shares as the code puts them together
-pub unfaded-is : (v : Voice) (volume : ℕ) (shares : Shares) (stereo : Bool) → volume ≡ volumeOf v → shares ≡ sharesOf (v .channel) (v .pan) → stereo ≡ isStereo (v .channel)
-    → _≡_ {A = Gains} (record { volume = volume; «left_share» = shares .left; «right_share» = shares .right; stereo = stereo; fades = false; «fade_start» = 0; «path_length» = 0 }) (unfaded v)
-unfaded-is v volume shares stereo e e₂ e₃ = rw (e, e₂, e₃)
+-- volume, velocity and shares as the code puts them together
+pub unfaded-is : (v : Voice) (volume velocity : ℕ) (shares : Shares) (stereo : Bool)
+    → volume ≡ volumeOf v → shares ≡ sharesOf (v .channel) (v .pan) → stereo ≡ isStereo (v .channel)
+    → _≡_ {A = Gains}
+    (record {
+      volume = volume;
+      velocity = velocity;
+      «left_share» = shares .left;
+      «right_share» = shares .right;
+      stereo = stereo;
+      fades = false;
+      «fade_start» = 0;
+      «path_length» = 0;
+    })
+    (unfaded v velocity)
+unfaded-is v volume velocity shares stereo e e₂ e₃ = rw (e, e₂, e₃)
 
 -- ---- every voice
 
-unfaded-bounded : (v : Voice) → Bounded (unfaded v)
-unfaded-bounded v = let h = shares-held (v .channel) (v .pan) in record { volume-small = omega arith; left-small = h .0; right-small = h .1 }
+-- two gains that differ in their fades at most
+record SameButFade (g h : Gains) : Type 0 where
+  same-volume : g .volume ≡ h .volume
+  same-velocity : g .velocity ≡ h .velocity
+  same-left : g .«left_share» ≡ h .«left_share»
+  same-right : g .«right_share» ≡ h .«right_share»
+  same-stereo : g .stereo ≡ h .stereo
 
-pub gains-bounded : (v : Voice) (k : ℕ) → Bounded (gainsOf v k)
-unfolding gainsOf
-gains-bounded v k = go (v .fade) (v .sequence)
-  where
-    go : (fade : Option Fade) (sequence : Option (List SeqnSegment)) → Bounded (fadedBy (unfaded v) fade sequence k)
-    go (some f) (some segments) = let h = unfaded-bounded v in record { volume-small = h .volume-small; left-small = h .left-small; right-small = h .right-small }
-    go (some f) none = unfaded-bounded v
-    go none sequence = unfaded-bounded v
+same-itself : (g : Gains) → SameButFade g g
+same-itself g = record { same-volume = refl; same-velocity = refl; same-left = refl; same-right = refl; same-stereo = refl }
 
-pub gains-stereo : (v : Voice) (k : ℕ) → gainsOf v k .stereo ≡ isStereo (v .channel)
-unfolding gainsOf
-gains-stereo v k = go (v .fade) (v .sequence)
-  where
-    go : (fade : Option Fade) (sequence : Option (List SeqnSegment)) → fadedBy (unfaded v) fade sequence k .stereo ≡ isStereo (v .channel)
-    go (some f) (some segments) = refl
-    go (some f) none = refl
-    go none sequence = refl
+module _ (v : Voice) (k velocity : ℕ) where
+  -- the gains
+  abbrev here : Gains
+  here = gainsOf v k velocity
 
--- ---- a frame by the gains is the frame
+  but-fade : SameButFade here (unfaded v velocity)
+  unfolding gainsOf
+  but-fade = go (v .fade) (v .sequence)
+    where
+      go : (fade : Option Fade) (sequence : Option (List SeqnSegment)) → SameButFade (fadedBy (unfaded v velocity) fade sequence k) (unfaded v velocity)
+      go (some f) (some segments) = record { same-volume = refl; same-velocity = refl; same-left = refl; same-right = refl; same-stereo = refl }
+      go (some f) none = same-itself (unfaded v velocity)
+      go none sequence = same-itself (unfaded v velocity)
 
-gains-volume : (v : Voice) (k : ℕ) → gainsOf v k .volume ≡ volumeOf v
-unfolding gainsOf
-gains-volume v k = go (v .fade) (v .sequence)
-  where
-    go : (fade : Option Fade) (sequence : Option (List SeqnSegment)) → fadedBy (unfaded v) fade sequence k .volume ≡ volumeOf v
-    go (some f) (some segments) = refl
-    go (some f) none = refl
-    go none sequence = refl
+  pub gains-bounded : velocity ≤ 127 → Bounded here
+  gains-bounded h =
+      let same = but-fade in
+      let shares = shares-held (v .channel) (v .pan) in
+      record {
+        volume-small = rw (same .same-volume) (omega arith);
+        velocity-small = rw (same .same-velocity) h;
+        left-small = rw (same .same-left) (shares .0);
+        right-small = rw (same .same-right) (shares .1);
+      }
 
-gains-shares : (v : Voice) (k : ℕ) → (gainsOf v k .«left_share» ≡ shareOf v .left) × (gainsOf v k .«right_share» ≡ shareOf v .right)
-unfolding gainsOf
-gains-shares v k = go (v .fade) (v .sequence)
-  where
-    go : (fade : Option Fade) (sequence : Option (List SeqnSegment))
-        → (fadedBy (unfaded v) fade sequence k .«left_share» ≡ shareOf v .left) × (fadedBy (unfaded v) fade sequence k .«right_share» ≡ shareOf v .right)
-    go (some f) (some segments) = (refl, refl)
-    go (some f) none = (refl, refl)
-    go none sequence = (refl, refl)
+  pub gains-stereo : here .stereo ≡ isStereo (v .channel)
+  gains-stereo = but-fade .same-stereo
 
-faded-gains : (v : Voice) (k q : ℕ) (x : ℤ) → fadedWith (gainsOf v k) q x ≡ fadedAt v k q x
-unfolding gainsOf fadedWith fadedAt
-faded-gains v k q x = go (v .fade) (v .sequence)
-  where
-    go : (fade : Option Fade) (sequence : Option (List SeqnSegment)) → fadedWith (fadedBy (unfaded v) fade sequence k) q x ≡ fadedIn fade sequence k q x
-    go (some f) (some segments) = refl
-    go (some f) none = refl
-    go none sequence = refl
+  -- ---- a frame by the gains is the frame
 
-value-gains : (v : Voice) (k q level : ℕ) (x : ℤ) (share : ℕ) → valueWith (gainsOf v k) level q x share ≡ value v k q level x share
-unfolding valueWith beforeSides value
-value-gains v k q level x share = rw (faded-gains v k q, gains-volume v k)
+  faded-gains : (q : ℕ) (x : ℤ) → fadedWith here q x ≡ fadedAt v k q x
+  unfolding gainsOf fadedWith fadedAt
+  faded-gains q x = go (v .fade) (v .sequence)
+    where
+      go : (fade : Option Fade) (sequence : Option (List SeqnSegment)) → fadedWith (fadedBy (unfaded v velocity) fade sequence k) q x ≡ fadedIn fade sequence k q x
+      go (some f) (some segments) = refl
+      go (some f) none = refl
+      go none sequence = refl
 
-pub frame-gains : (v : Voice) (s : Sides) (k q : ℕ) (place level : Option ℕ) → frameWith (gainsOf v k) (s .left) (s .right) q place level ≡ frameAt v s k q place level
-unfolding frameWith frameAt
-frame-gains v s k q (some i) (some level) =
-    let shares = gains-shares v k in
-    rw (value-gains v k q level, value-gains v k q level, gains-stereo v k, shares .0, shares .1)
-frame-gains v s k q (some i) none = refl
-frame-gains v s k q none level = refl
+  value-gains : (q level : ℕ) (x : ℤ) (share : ℕ) → valueWith here level q x share ≡ value v k velocity q level x share
+  unfolding valueWith beforeSides value
+  value-gains q level x share = let same = but-fade in rw (faded-gains q, same .same-volume, same .same-velocity)
 
--- ---- the fade
+  pub frame-gains : (s : Sides) (q : ℕ) (place level : Option ℕ) → frameWith here (s .left) (s .right) q place level ≡ frameAt v s (value v k velocity) q place level
+  unfolding frameWith frameAt
+  frame-gains s q (some i) (some level) =
+      let same = but-fade in
+      rw (value-gains q level, value-gains q level, same .same-stereo, same .same-left, same .same-right)
+  frame-gains s q (some i) none = refl
+  frame-gains s q none level = refl
 
-pub gains-fade : (v : Voice) (k : ℕ) (segments : List SeqnSegment) → v .sequence ≡ some segments → gainsOf v k .fades ≡ true → gainsOf v k .«path_length» ≡ joinedLength (2 ^ k) segments
-unfolding gainsOf
-gains-fade v k segments e = rw e (go (v .fade))
-  where
-    go : (fade : Option Fade) → fadedBy (unfaded v) fade (some segments) k .fades ≡ true → fadedBy (unfaded v) fade (some segments) k .«path_length» ≡ joinedLength (2 ^ k) segments
-    go (some f) t = refl
-    go none t = impossible cc
+  -- ---- the fade
 
-pub gains-no-fade : (v : Voice) (k : ℕ) → v .sequence ≡ none → gainsOf v k .fades ≡ false
-unfolding gainsOf
-gains-no-fade v k e = rw e (go (v .fade))
-  where
-    go : (fade : Option Fade) → fadedBy (unfaded v) fade none k .fades ≡ false
-    go (some f) = refl
-    go none = refl
+  pub gains-fade : (segments : List SeqnSegment) → v .sequence ≡ some segments → here .fades ≡ true → here .«path_length» ≡ joinedLength (2 ^ k) segments
+  unfolding gainsOf
+  gains-fade segments e = rw e (go (v .fade))
+    where
+      go : (fade : Option Fade) →
+          let g = fadedBy (unfaded v velocity) fade (some segments) k in
+          g .fades ≡ true → g .«path_length» ≡ joinedLength (2 ^ k) segments
+      go (some f) t = refl
+      go none t = impossible cc
+
+  pub gains-no-fade : v .sequence ≡ none → here .fades ≡ false
+  unfolding gainsOf
+  gains-no-fade e = rw e (go (v .fade))
+    where
+      go : (fade : Option Fade) → fadedBy (unfaded v velocity) fade none k .fades ≡ false
+      go (some f) = refl
+      go none = refl
 
 -- a fade that fits has a sequence; `ss` are its segments as they were read
 pub fade-sequence : (v : Voice) (k : ℕ) (f : Fade) (ss : List SeqnSegment) → ((segments : List SeqnSegment) → v .sequence ≡ some segments → ss ≡ segments) → v .fade ≡ some f → FadeShort v k

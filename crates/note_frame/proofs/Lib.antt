@@ -5,4 +5,5 @@ pub mod GainsLaws
 pub mod FrameLaws
 pub mod FramesLaws
 pub mod PanFirst
+pub mod Velocity
 pub mod Examples

@@ -12,7 +12,7 @@ use native.Mathlib.Omega.{arith}
 use borrow.Author.Tests.{ltb-true, ltb-false}
 use lib.Dec.{ltb}
 use lib.IntN.{ℤ, pos}
-use lib.ListN.{length, getD}
+use lib.ListN.{getD}
 use Rattle.small_chunks.specs.Pan.{heldToUnity}
 use Rattle.small_chunks.specs.declared.channel.ChannelAssignment.{ChannelAssignment}
 use Rattle.small_chunks.specs.declared.channel.ChannelAssignment.the-variants.{Left, Right, Stereo}
@@ -22,8 +22,7 @@ use Rattle.envelope.specs.Level.{scaledBy}
 use Rattle.envelope.proofs.ScaleLaws.{scaled-whole, scaled-less, scaled-nothing}
 use Rattle.sheet.specs.Voice.{Voice, isStereo}
 use Rattle.body_read.specs.Sides.{Sides}
-use Rattle.note_path.specs.Path.{pathOf}
-use Rattle.note_frame.specs.Frame.{stepOf, attackLevel, releaseLevel, levelOf, fadedAt, value, silent, frameAt, frame}
+use Rattle.note_frame.specs.Frame.{attackLevel, releaseLevel, levelOf, fadedAt, value, silent, frameAt, frame}
 use Rattle.note_frame.specs.PanFirst.{routed, ChannelAlone, Quiet, PanFirst}
 use Rattle.note_frame.specs.Shares.{channelShares, panShares, panElse, sharesOf}
 use Rattle.note_frame.specs.declared.chain.Frame.{Frame}
@@ -32,6 +31,7 @@ use Rattle.note_frame.specs.declared.playing.Key.the-variants.{Held, Rel
 use Rattle.note_frame.specs.declared.playing.Playing.{Playing}
 use Rattle.note_frame.specs.declared.shares.Shares.{Shares}
 use Rattle.note_frame.proofs.SharesLaws.{two-channels, one-channel}
+use Rattle.note_frame.proofs.FrameLaws.{both-frames}
 
 -- ---- the shares
 
@@ -137,25 +137,26 @@ module _ (v : Voice) (channel : Option ChannelAssignment) (pan : Option Pan) whe
   level-routed rate (Released u) p = refl
 
   -- and so is the value in full, of which a side has its share
-  value-routed : (k q level : ℕ) (sample : ℤ) (share : ℕ) → value (routed v channel pan) k q level sample share ≡ scaledBy (value v k q level sample 65536) share 65536
+  value-routed : (k velocity q level : ℕ) (sample : ℤ) (share : ℕ)
+      → value (routed v channel pan) k velocity q level sample share ≡ scaledBy (value v k velocity q level sample 65536) share 65536
   unfolding value fadedAt
-  value-routed k q level sample share = ap (λ (x : ℤ). scaledBy x share 65536) (full _)
+  value-routed k velocity q level sample share = ap (λ (x : ℤ). scaledBy x share 65536) (full _)
 
-  module _ (s : Sides) (k q i level : ℕ) where
+  module _ (s : Sides) (n : Playing) (q i level : ℕ) where
     -- a frame that sounds
     abbrev routed-frame : Frame
-    routed-frame = frameAt (routed v channel pan) s k q (some i) (some level)
+    routed-frame = frameAt (routed v channel pan) s (value (routed v channel pan) (n .octave) (n .velocity)) q (some i) (some level)
 
     -- the value in full of the sample that lies there
     abbrev in-full : List ℤ → ℤ
-    in-full samples = value v k q level (getD samples i (pos 0)) 65536
+    in-full samples = value v (n .octave) (n .velocity) q level (getD samples i (pos 0)) 65536
 
     routed-parts : routed-frame ≡ parted (in-full (s .left)) (in-full (cond (isStereo channel) (s .right) (s .left))) (sharesOf channel pan)
     unfolding frameAt
     routed-parts =
         sides-same
-        (value-routed k q level (getD (s .left) i (pos 0)) (sharesOf channel pan .left))
-        (value-routed k q level (getD (cond (isStereo channel) (s .right) (s .left)) i (pos 0)) (sharesOf channel pan .right))
+        (value-routed (n .octave) (n .velocity) q level (getD (s .left) i (pos 0)) (sharesOf channel pan .left))
+        (value-routed (n .octave) (n .velocity) q level (getD (cond (isStereo channel) (s .right) (s .left)) i (pos 0)) (sharesOf channel pan .right))
 
     one-value : isStereo channel ≡ false → routed-frame ≡ shared (in-full (s .left)) (sharesOf channel pan)
     one-value m = routed-parts ∙ ap (λ b. parted (in-full (s .left)) (in-full (cond b (s .right) (s .left))) (sharesOf channel pan)) m
@@ -163,22 +164,12 @@ module _ (v : Voice) (channel : Option ChannelAssignment) (pan : Option Pan) whe
 -- what holds of two frames that are over and of two that sound holds of every frame of both voices
 module _ (v : Voice) (s : Sides) (c d : Option ChannelAssignment) (pan pan₂ : Option Pan) where
   every-frame : (n : Playing) (p : ℕ) (P : Frame → Frame → Type 0) → P silent silent
-      → ((k q i level : ℕ) → P (frameAt (routed v c pan) s k q (some i) (some level)) (frameAt (routed v d pan₂) s k q (some i) (some level)))
+      → ((q i level : ℕ) → P (routed-frame v c pan s n q i level) (routed-frame v d pan₂ s n q i level))
       → P (frame (routed v c pan) s n p) (frame (routed v d pan₂) s n p)
-  unfolding frame frameAt
-  every-frame n p P over sounds =
-      rw (level-routed v c pan (n .rate) (n .key) p, level-routed v d pan₂ (n .rate) (n .key) p)
-      (go (ltb p 4294967295) (pathOf (v .sequence) (v .header) (length (s .left)) (n .octave) q) (levelOf v (n .rate) (n .key) p))
-    where
-      q : ℕ
-      q = stepOf (n .step) p
-
-      go : (t : Bool) (place level : Option ℕ)
-          → P (cond t (frameAt (routed v c pan) s (n .octave) q place level) silent) (cond t (frameAt (routed v d pan₂) s (n .octave) q place level) silent)
-      go true (some i) (some level) = sounds (n .octave) q i level
-      go true (some i) none = over
-      go true none level = over
-      go false place level = over
+  unfolding frame
+  every-frame n p P =
+      both-frames (routed v c pan) (routed v d pan₂) s _ _ n p P refl
+      (level-routed v c pan (n .rate) (n .key) p ∙ sym (level-routed v d pan₂ (n .rate) (n .key) p))
 
 -- ---- frames
 
@@ -190,12 +181,12 @@ module _ (v : Voice) (s : Sides) (n : Playing) (p : ℕ) where
   same-shares : (c d : Option ChannelAssignment) (pan pan₂ : Option Pan) → isStereo c ≡ isStereo d → sharesOf c pan ≡ sharesOf d pan₂ → by c pan ≡ by d pan₂
   same-shares c d pan pan₂ e e₂ =
       every-frame v s c d pan pan₂ n p _≡_ refl
-      (λ k q i level. rw (routed-parts v c pan s k q i level, routed-parts v d pan₂ s k q i level, e, e₂))
+      (λ q i level. rw (routed-parts v c pan s n q i level, routed-parts v d pan₂ s n q i level, e, e₂))
 
   over-same : (channel : Option ChannelAssignment) (pan : Option Pan) → by channel pan .sounds ≡ by channel none .sounds
   over-same channel pan =
       every-frame v s channel channel pan none n p (λ f g. f .sounds ≡ g .sounds) refl
-      (λ k q i level. rw (routed-parts v channel pan s k q i level, routed-parts v channel none s k q i level))
+      (λ q i level. rw (routed-parts v channel pan s n q i level, routed-parts v channel none s n q i level))
 
   -- when a frame f is g, which is without the pan
   abbrev Stays : Option ChannelAssignment → Option Pan → Frame → Frame → Type 0
@@ -204,9 +195,9 @@ module _ (v : Voice) (s : Sides) (n : Playing) (p : ℕ) where
   one-stays : (channel : Option ChannelAssignment) (pan : Option Pan) → isStereo channel ≡ false → Stays channel pan (by channel pan) (by channel none)
   one-stays channel pan m =
       every-frame v s channel channel pan none n p (Stays channel pan) (λ e. inr (refl, refl), λ e. refl)
-      (λ k q i level.
-      let x = in-full v channel pan s k q i level (s .left) in
-      rw (one-value v channel pan s k q i level m, one-value v channel none s k q i level m, one-channel channel none m) (stayed x channel pan m, stays x channel pan))
+      (λ q i level.
+      let x = in-full v channel pan s n q i level (s .left) in
+      rw (one-value v channel pan s n q i level m, one-value v channel none s n q i level m, one-channel channel none m) (stayed x channel pan m, stays x channel pan))
 
   frame-stays : (channel : Option ChannelAssignment) (pan : Option Pan) → Stays channel pan (by channel pan) (by channel none)
   frame-stays (some Left) pan = one-stays (some Left) pan refl
@@ -221,9 +212,9 @@ module _ (v : Voice) (s : Sides) (n : Playing) (p : ℕ) where
   left-alone : by (some Left) none .right ≡ pos 0
   left-alone =
       every-frame v s (some Left) (some Left) none none n p (λ f g. f .right ≡ pos 0) refl
-      (λ k q i level.
-      rw (one-value v (some Left) none s k q i level refl, one-channel (some Left) none refl)
-      (scaled-nothing (in-full v (some Left) none s k q i level (s .left)) 0 65536 (omega arith) (omega arith)))
+      (λ q i level.
+      rw (one-value v (some Left) none s n q i level refl, one-channel (some Left) none refl)
+      (scaled-nothing (in-full v (some Left) none s n q i level (s .left)) 0 65536 (omega arith) (omega arith)))
 
   -- with a pan of 65,536 one channel is there, wherever it would be without it
   leftmost : (channel : Option ChannelAssignment) (pan : Pan) → isStereo channel ≡ false → heldToUnity (pan .position) ≡ 65536 → by channel (some pan) ≡ by (some Left) none

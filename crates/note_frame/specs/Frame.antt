@@ -26,7 +26,7 @@ use Rattle.note_frame.specs.declared.shares.Shares.{Shares}
 
 -- the same note with another key
 abbrev pub withKey : Playing → Key → Playing
-withKey n key = record { octave = n .octave; step = n .step; rate = n .rate; key = key }
+withKey n key = record { octave = n .octave; velocity = n .velocity; step = n .step; rate = n .rate; key = key }
 
 -- ---- where frame p is
 
@@ -84,10 +84,10 @@ fadedAt v k q x = fadedIn (v .fade) (v .sequence) k q x
 abbrev pub shareOf : Voice → Shares
 shareOf v = sharesOf (v .channel) (v .pan)
 
--- sample × 256; × level / 65,536; × volume / 65,536; the fade; × share / 65,536. Each step cuts toward zero
-unfoldable pub value : Voice → ℕ → ℕ → ℕ → ℤ → ℕ → ℤ
-value v k q level sample share =
-    scaledBy (fadedAt v k q (scaledBy (scaledBy (sample *ℤ pos 256) level 65536) (volumeOf v) 65536)) share 65536
+-- sample × 256; × level / 65,536; × volume / 65,536; × velocity / 127; the fade; × share / 65,536. Each step cuts toward zero
+unfoldable pub value : Voice → ℕ → ℕ → ℕ → ℕ → ℤ → ℕ → ℤ
+value v k velocity q level sample share =
+    scaledBy (fadedAt v k q (scaledBy (scaledBy (scaledBy (sample *ℤ pos 256) level 65536) (volumeOf v) 65536) velocity 127)) share 65536
 
 -- ---- the frame
 
@@ -99,19 +99,27 @@ silent = record { left = pos 0; right = pos 0; sounds = false }
 abbrev pub rightSamples : Voice → Sides → List ℤ
 rightSamples v s = cond (isStereo (v .channel)) (s .right) (s .left)
 
--- the frame of step q in octave k, whose sample lies at a place, at a level; without either it is over
-unfoldable pub frameAt : Voice → Sides → ℕ → ℕ → Option ℕ → Option ℕ → Frame
-frameAt v s k q (some i) (some level) = record {
-  left = value v k q level (getD (s .left) i (pos 0)) (shareOf v .left);
-  right = value v k q level (getD (rightSamples v s) i (pos 0)) (shareOf v .right);
+-- a value chain: what a step, a level, a sample and a side's share give
+abbrev pub Chain : Type 0
+Chain = ℕ → ℕ → ℤ → ℕ → ℤ
+
+-- the frame of step q by a chain, whose sample lies at a place, at a level; without either it is over
+unfoldable pub frameAt : Voice → Sides → Chain → ℕ → Option ℕ → Option ℕ → Frame
+frameAt v s chain q (some i) (some level) = record {
+  left = chain q level (getD (s .left) i (pos 0)) (shareOf v .left);
+  right = chain q level (getD (rightSamples v s) i (pos 0)) (shareOf v .right);
   sounds = true;
 }
-frameAt v s k q (some i) none = silent
-frameAt v s k q none level = silent
+frameAt v s chain q (some i) none = silent
+frameAt v s chain q none level = silent
 
--- frame p of a note: past the path, after the release, and from 4,294,967,295 on it is over
-unfoldable pub frame : Voice → Sides → Playing → ℕ → Frame
-frame v s n p =
+-- frame p of a note by a chain: past the path, after the release, and from 4,294,967,295 on it is over
+unfoldable pub frameBy : Voice → Sides → Chain → Playing → ℕ → Frame
+frameBy v s chain n p =
     cond (ltb p 4294967295)
-    (frameAt v s (n .octave) (stepOf (n .step) p) (pathOf (v .sequence) (v .header) (length (s .left)) (n .octave) (stepOf (n .step) p)) (levelOf v (n .rate) (n .key) p))
+    (frameAt v s chain (stepOf (n .step) p) (pathOf (v .sequence) (v .header) (length (s .left)) (n .octave) (stepOf (n .step) p)) (levelOf v (n .rate) (n .key) p))
     silent
+
+-- frame p of a note
+unfoldable pub frame : Voice → Sides → Playing → ℕ → Frame
+frame v s n p = frameBy v s (value v (n .octave) (n .velocity)) n p

@@ -24,10 +24,11 @@ use Rattle.note_frame.specs.declared.chain.Gains.{Gains}
 
 -- ---- the gains of a voice
 
--- volume and shares, with no fade
-abbrev pub unfaded : Voice → Gains
-unfaded v = record {
+-- volume, velocity and shares, with no fade
+abbrev pub unfaded : Voice → ℕ → Gains
+unfaded v velocity = record {
   volume = volumeOf v;
+  velocity = velocity;
   «left_share» = shareOf v .left;
   «right_share» = shareOf v .right;
   stereo = isStereo (v .channel);
@@ -40,6 +41,7 @@ unfaded v = record {
 abbrev pub withFade : Gains → Fade → List SeqnSegment → ℕ → Gains
 withFade g f segments k = record {
   volume = g .volume;
+  velocity = g .velocity;
   «left_share» = g .«left_share»;
   «right_share» = g .«right_share»;
   stereo = g .stereo;
@@ -54,9 +56,9 @@ fadedBy g (some f) (some segments) k = withFade g f segments k
 fadedBy g (some f) none k = g
 fadedBy g none sequence k = g
 
--- the gains of a voice in octave k
-unfoldable pub gainsOf : Voice → ℕ → Gains
-gainsOf v k = fadedBy (unfaded v) (v .fade) (v .sequence) k
+-- the gains of a voice in octave k, struck at a velocity
+unfoldable pub gainsOf : Voice → ℕ → ℕ → Gains
+gainsOf v k velocity = fadedBy (unfaded v velocity) (v .fade) (v .sequence) k
 
 -- the channel that the layout's answer says
 abbrev pub channelAnswered : MaybeChannel → Option ChannelAssignment
@@ -76,7 +78,7 @@ fadedWith g q x = cond (g .fades) (fadedFrom (g .«fade_start») (g .«path_leng
 
 -- a sample's value before it goes to a side
 unfoldable pub beforeSides : Gains → ℕ → ℕ → ℤ → ℤ
-beforeSides g level q sample = fadedWith g q (scaledBy (scaledBy (sample *ℤ pos 256) level 65536) (g .volume) 65536)
+beforeSides g level q sample = fadedWith g q (scaledBy (scaledBy (scaledBy (sample *ℤ pos 256) level 65536) (g .volume) 65536) (g .velocity) 127)
 
 -- a side's share of it
 unfoldable pub valueWith : Gains → ℕ → ℕ → ℤ → ℕ → ℤ
@@ -94,9 +96,10 @@ frameWith g left right q none level = silent
 
 -- ---- what the code asks
 
--- no factor is above 65,536
+-- no factor is above 65,536, and the velocity not above 127
 pub record Bounded (g : Gains) : Type 0 where
   pub volume-small : g .volume ≤ 65536
+  pub velocity-small : g .velocity ≤ 127
   pub left-small : g .«left_share» ≤ 65536
   pub right-small : g .«right_share» ≤ 65536
 

@@ -3,4 +3,5 @@ pub mod Shares
 pub mod Frame
 pub mod Frames
 pub mod PanFirst
+pub mod Velocity
 pub mod Gains

@@ -11,10 +11,11 @@ ghost use Rattle.envelope.specs.Level.{scaledBy};
 ghost use Rattle.note_frame.specs.Frame.{silent};
 ghost use Rattle.note_frame.specs.Gains.{fadedWith, beforeSides, frameWith, InRange};
 
-// What doesn't change from frame to frame: the volume and the sides' shares, at most 65,536 each; that each side has its own samples;
-// and the fade, from step `fade_start` to the path's length.
+// What doesn't change from frame to frame: the volume and the sides' shares, at most 65,536 each; the velocity, at most 127; that each side
+// has its own samples; and the fade, from step `fade_start` to the path's length.
 pub struct Gains {
     pub volume: u32,
+    pub velocity: u32,
     pub left_share: u32,
     pub right_share: u32,
     pub stereo: bool,
@@ -45,14 +46,12 @@ fn fade_by(g: Gains, q: usize, x: i32) -> i32
 
 // A sample's value at a level, before it goes to a side.
 fn before_sides(g: Gains, level: u32, q: usize, sample: i8) -> i32
-    requires { ⌜ (level ≤ 65536) × (g .volume ≤ 65536) × (g .fades ≡ true → q < g .«path_length») ⌝ }
+    requires { ⌜ (level ≤ 65536) × (g .volume ≤ 65536) × (g .velocity ≤ 127) × (g .fades ≡ true → q < g .«path_length») ⌝ }
     ensures { λ r. ⌜ (r ≡ beforeSides g level q sample) × SFits w16 r ⌝ }
 {
-    fade_by(
-        g,
-        q,
-        scaled(scaled(sample as i32 * 256, level, 65536), g.volume, 65536),
-    )
+    let at_level = scaled(sample as i32 * 256, level, 65536);
+    let at_volume = scaled(at_level, g.volume, 65536);
+    fade_by(g, q, scaled(at_volume, g.velocity, 127))
 }
 
 // A side's share of a value.

@@ -19,6 +19,7 @@ pub(crate) fn with_fade(g: Gains, f: Fade, segments: &[u8], k: u8) -> Gains
     let path_length = sequence_length(segments, segments.len()) * scale;
     Gains {
         volume: g.volume,
+        velocity: g.velocity,
         left_share: g.left_share,
         right_share: g.right_share,
         stereo: g.stereo,

@@ -1,4 +1,4 @@
-// What doesn't change from frame to frame, taken from the sheet: volume, shares of the sides, and the fade.
+// What doesn't change from frame to frame: from the sheet volume, shares of the sides, and the fade; from the note its velocity.
 use crate::chain::Gains;
 use crate::fade::with_fade;
 use crate::shares::side_shares;
@@ -26,15 +26,16 @@ fn full_volume(volume: u32) -> u32
     volume
 }
 
-// The gains of a sound sheet in octave k.
-pub fn gains_of(sheet: &[u8], l: Layout, k: u8) -> Gains
+// The gains of a sound sheet in octave k, struck at a velocity.
+pub fn gains_of(sheet: &[u8], l: Layout, k: u8, velocity: u8) -> Gains
     requires { ⌜ (judged (now sheet) ≡ Sound) × (l ≡ layoutOf (readSheet (now sheet))) × (k < 64) × FadeShort (readSheet (now sheet)) k ⌝ }
-    ensures { λ r. ⌜ r ≡ gainsOf (readSheet (now (sheet .entry))) k ⌝ }
+    ensures { λ r. ⌜ r ≡ gainsOf (readSheet (now (sheet .entry))) k velocity ⌝ }
 {
     let h = sheet_header(sheet);
     let s = side_shares(sheet_channel(sheet, l), sheet_pan(sheet, l));
     let g = Gains {
         volume: full_volume(h.volume),
+        velocity: velocity as u32,
         left_share: s.left,
         right_share: s.right,
         stereo: sheet_stereo(sheet),

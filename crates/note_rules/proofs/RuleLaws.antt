@@ -3,14 +3,16 @@
 --     sequence-numbered .. speed-numbered            nor has one of a part
 --     NoneOf, none-of                                where none holds, none of a part does
 --     NotAhead, not-ahead, never-ahead               a key-up that isn't ahead of the frames filled
+--     is-none, past-most, within-most                a number that has to be from 1 to a limit
 --     rules-capped                                   from past 4,294,967,295 frames on the rules stay as they are there
 -- Assumes nothing.
-use Prim.Native.Nat.{ℕ, _≤_, min}
-use mathlib.Core.Bool.{false}
+use Prim.Native.Nat.{ℕ, _≤_, _<_, min}
+use mathlib.Core.Bool.{true, false, _||_}
 use mathlib.Core.List.{List, _++_}
 use mathlib.Core.Path.{_≡_, refl}
 use native.Mathlib.Omega.{arith}
-use borrow.Author.Tests.{le-ltb}
+use borrow.Author.Tests.{lt-ltb, le-ltb, eq-eqb, ne-eqb}
+use lib.Dec.{eqb, ltb}
 use Rattle.refusal.specs.Rules.{Rule, firstHolding, NoneHolds}
 use Rattle.refusal.proofs.RuleLaws.{Numbered, numbered-by, none-holds, none-parts}
 use Rattle.sheet.specs.Voice.{Voice}
@@ -68,6 +70,18 @@ module _ (v : Voice) (left right : ℕ) (n : Playing) (frames places : ℕ) wher
       let octave = none-parts (octaveRules v (n .octave)) fromPlaces (sequence .1) in
       let even = none-parts (placeRules places) (noteRules (v .header) n frames) (octave .1) in
       record { voice = all .0; sequence = sequence .0; octave = octave .0; even = even .0; note = even .1 }
+
+-- ---- from 1 to a limit
+
+module _ (n most : ℕ) where
+  pub is-none : n ≡ 0 → (eqb n 0 || ltb most n) ≡ true
+  is-none e = rw (eq-eqb n 0 e)
+
+  pub past-most : (n ≡ 0 → ⊥) → most < n → (eqb n 0 || ltb most n) ≡ true
+  past-most some h = rw (ne-eqb n 0 some, lt-ltb most n h)
+
+  pub within-most : (n ≡ 0 → ⊥) → n ≤ most → (eqb n 0 || ltb most n) ≡ false
+  within-most some h = rw (ne-eqb n 0 some, le-ltb most n h)
 
 -- ---- the frames filled
 

@@ -1,12 +1,12 @@
 -- The rules that turn a fill back, in the order in which they are judged: the voice's own (10, 13, 18), the sequence's (21 to 23), the
--- octave's (24), the places' (25) and the note's (31 to 34). 15 to 17, the sheet's own, come before them.
+-- octave's (24), the places' (25) and the note's (31 to 34, and then 44). 15 to 17, the sheet's own, come before them.
 use Prim.Native.Nat.{ℕ, _%_, _^_}
 use mathlib.Core.Bool.{Bool, false, not, _&&_, _||_}
 use mathlib.Core.List.{List, [], _∷_, _++_}
 use mathlib.Core.Option.{Option, none, some}
 use lib.Dec.{eqb, ltb}
 use lib.ListN.{length}
-use Rattle.refusal.specs.Numbers.{segment, sequenceOneShot, fadeSegment, sequenceLength, oddPlaces, noOctave, step, rate, keyUp}
+use Rattle.refusal.specs.Numbers.{segment, sequenceOneShot, fadeSegment, sequenceLength, oddPlaces, noOctave, step, rate, keyUp, velocity}
 use Rattle.refusal.specs.Rules.{Rule, rule}
 use Rattle.header.specs.Octaves.{hi, octaveThere}
 use Rattle.header.specs.declared.«voice_header».VoiceHeader.{VoiceHeader}
@@ -57,13 +57,17 @@ speedRules s r =
     ∷ rule rate (eqb r 0 || ltb 192000 r)
     ∷ []
 
--- 31 to 34, of a note with so many frames filled
+-- 44, of a velocity
+abbrev pub velocityRules : ℕ → List Rule
+velocityRules v = rule velocity (eqb v 0 || ltb 127 v) ∷ []
+
+-- 31 to 34 and 44, of a note with so many frames filled
 abbrev pub noteRules : VoiceHeader → Playing → ℕ → List Rule
 noteRules h n frames =
     rule noOctave (not (octaveThere h (n .octave)))
     ∷ speedRules (n .step) (n .rate)
     ++ rule keyUp (keyUpAhead (n .key) frames)
-    ∷ []
+    ∷ velocityRules (n .velocity)
 
 -- all of them: a voice whose sides have so many samples, a note with so many frames filled, a buffer of so many places
 unfoldable pub fillRules : Voice → ℕ → ℕ → Playing → ℕ → ℕ → List Rule

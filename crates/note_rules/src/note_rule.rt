@@ -1,10 +1,10 @@
-// 25 and 31 to 34: the buffer's places, and the note.
+// 25, 31 to 34 and 44: the buffer's places, and the note.
 use header::VoiceHeader;
 use note_frame::Key;
 use note_frame::Playing;
 ghost use mathlib.Core.Path.{_≡_};
 ghost use Rattle.refusal.specs.Rules.{firstHolding};
-ghost use Rattle.note_rules.specs.Rules.{placeRules, noteRules, speedRules, keyUpAhead};
+ghost use Rattle.note_rules.specs.Rules.{placeRules, noteRules, speedRules, velocityRules, keyUpAhead};
 
 // A key-up later than the frames filled.
 fn key_up_ahead(key: Key, frames: u32) -> bool
@@ -35,6 +35,19 @@ fn speed_refusal(step: u32, rate: u32) -> u8
     0
 }
 
+// 44, or 0.
+fn velocity_refusal(velocity: u8) -> u8
+    ensures { λ n. ⌜ n ≡ firstHolding (velocityRules velocity) ⌝ }
+{
+    if velocity == 0 {
+        return refusal::VELOCITY;
+    }
+    if 127 < velocity {
+        return refusal::VELOCITY;
+    }
+    0
+}
+
 // 25, or 0.
 pub fn places_refusal(places: usize) -> u8
     ensures { λ n. ⌜ n ≡ firstHolding (placeRules places) ⌝ }
@@ -45,7 +58,7 @@ pub fn places_refusal(places: usize) -> u8
     0
 }
 
-// 31 to 34, of a note with so many frames filled; or 0.
+// 31 to 34 and 44, of a note with so many frames filled; or 0.
 pub fn note_refusal(h: VoiceHeader, n: Playing, frames: u32) -> u8
     ensures { λ r. ⌜ r ≡ firstHolding (noteRules h n frames) ⌝ }
 {
@@ -60,5 +73,5 @@ pub fn note_refusal(h: VoiceHeader, n: Playing, frames: u32) -> u8
     if key_up_ahead(key, frames) {
         return refusal::KEY_UP;
     }
-    0
+    velocity_refusal(n.velocity)
 }

@@ -127,4 +127,8 @@ voiceRate = 41
 abbrev pub noCrossing : ℕ
 noCrossing = 43
 
+-- the velocity is 0 or above 127
+abbrev pub velocity : ℕ
+velocity = 44
+
 -- } refusals.txt

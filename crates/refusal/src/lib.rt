@@ -95,6 +95,9 @@ pub const VOICE_RATE: u8 = 41;
 // There is no crossing within reach.
 pub const NO_CROSSING: u8 = 43;
 
+// The velocity is 0 or above 127.
+pub const VELOCITY: u8 = 44;
+
 // } refusals.txt
 
 // How much of a lent buffer was written, or why nothing was.

@@ -66,7 +66,7 @@ pub fn play(sheet: &[u8], left: &[i8], right: &[i8], block: usize, out: &mut [i1
     let up = put_fills(&mut calls, 0, block);
     calls[up] = KEY_UP;
     let end = put_fills(&mut calls, up + 1, block);
-    let note = Note::start(1, 70000, 8000);
+    let note = Note::start(1, 70000, 8000, 127);
     match make_calls(note, sheet, left, right, &calls[..end], out, &mut answers) {
         Made::Refused(number) => Answer::Refused(number),
         Made::Calls(_, _, _) => all_sounding(&answers),

@@ -15,7 +15,7 @@ keyHandedIn released frame = cond released (Released frame) Held
 -- the note that was handed in
 abbrev pub noteOf : SvxNote → Note
 noteOf n = record {
-  playing = record { octave = n .octave; step = n .step; rate = n .rate; key = keyHandedIn (n .released) (n .«key_up») };
+  playing = record { octave = n .octave; velocity = n .velocity; step = n .step; rate = n .rate; key = keyHandedIn (n .released) (n .«key_up») };
   frames = n .frames;
 }
 
@@ -33,6 +33,7 @@ keyUpFrame (Released u) = u
 abbrev pub shapeOf : Note → SvxNote
 shapeOf n = record {
   octave = n .playing .octave;
+  velocity = n .playing .velocity;
   step = n .playing .step;
   rate = n .playing .rate;
   frames = n .frames;

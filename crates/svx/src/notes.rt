@@ -12,6 +12,7 @@ ghost use Rattle.svx.specs.Notes.{keyHandedIn, noteOf, shapeOf, released
 #[repr(C)]
 pub struct SvxNote {
     pub octave: u8,
+    pub velocity: u8,
     pub step: u32,
     pub rate: u32,
     pub frames: u32,
@@ -42,6 +43,7 @@ fn note_of(n: SvxNote) -> Note
     let key = key_of(n.released, n.key_up);
     let playing = Playing {
         octave: n.octave,
+        velocity: n.velocity,
         step: n.step,
         rate: n.rate,
         key,
@@ -77,6 +79,7 @@ fn shape_of(n: Note) -> SvxNote
     let key = p.key;
     SvxNote {
         octave: p.octave,
+        velocity: p.velocity,
         step: p.step,
         rate: p.rate,
         frames: n.frames,
@@ -104,10 +107,10 @@ fn sounding_of(answer: Answer) -> u64
 }
 
 #[no_mangle]
-pub extern "C" fn svx_note_start(octave: u8, step: u32, rate: u32) -> SvxNote
-    ensures { λ r. ⌜ r ≡ shapeOf (startOf octave step rate) ⌝ }
+pub extern "C" fn svx_note_start(octave: u8, step: u32, rate: u32, velocity: u8) -> SvxNote
+    ensures { λ r. ⌜ r ≡ shapeOf (startOf octave step rate velocity) ⌝ }
 {
-    shape_of(Note::start(octave, step, rate))
+    shape_of(Note::start(octave, step, rate, velocity))
 }
 
 #[no_mangle]

@@ -5,6 +5,7 @@
 #[derive(Clone, Copy, Debug, PartialEq)]
 pub struct Note {
     pub octave: u8,
+    pub velocity: u8,
     pub step: u32,
     pub rate: u32,
     pub frames: u32,
@@ -115,7 +116,7 @@ extern "C" {
         file_len: usize,
         length: *mut u64,
     ) -> u32;
-    pub fn svx_note_start(octave: u8, step: u32, rate: u32) -> Note;
+    pub fn svx_note_start(octave: u8, step: u32, rate: u32, velocity: u8) -> Note;
     pub fn svx_note_key_up(note: Note) -> Note;
     pub fn svx_note_fill(
         note: Note,

@@ -126,9 +126,9 @@ pub fn octave_wave(sheet: &[u8], left: &[i8], right: &[i8], octave: u8, file: &m
 }
 
 /// A fresh note.
-pub fn note_start(octave: u8, step: u32, rate: u32) -> Note {
+pub fn note_start(octave: u8, step: u32, rate: u32, velocity: u8) -> Note {
     // SAFETY: as the module says.
-    unsafe { svx_note_start(octave, step, rate) }
+    unsafe { svx_note_start(octave, step, rate, velocity) }
 }
 
 /// The note after a key-up.

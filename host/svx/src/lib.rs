@@ -25,8 +25,8 @@
 //! let sheet = Sheet::read(&file)?;
 //! assert_eq!(sheet.voice().header.hi_cycle_frequency_hz(), Some(2_000.0));
 //!
-//! // Octave 0, one sample a frame, to an output of 8,000 frames a second.
-//! let mut note = Note::start(0, 65_536, 8_000);
+//! // Octave 0, one sample a frame, to an output of 8,000 frames a second, struck as hard as can be.
+//! let mut note = Note::start(0, 65_536, 8_000, 127);
 //! let mut block = [0i16; 2 * 6];
 //! let mut played = Vec::new();
 //! for i in 0.. {

@@ -10,6 +10,8 @@ use crate::{Refusal, Sheet};
 pub struct Note {
     /// Which octave of the voice, 0 the highest.
     pub octave: u8,
+    /// How hard the key was struck, from 1 to 127; at 127 the values aren't made smaller.
+    pub velocity: u8,
     /// How far each frame goes on; 65,536 is one sample. Up to 16,777,216.
     pub step: u32,
     /// The output's rate in frames a second, up to 192,000. Envelopes go by it.
@@ -22,8 +24,29 @@ pub struct Note {
 
 impl Note {
     /// A fresh note: no frames filled, held. It keeps whatever it is given; a fill judges it.
-    pub fn start(octave: u8, step: u32, rate: u32) -> Note {
-        Note::of(ffi::note_start(octave, step, rate))
+    ///
+    /// ```
+    /// use svx::{ChannelSamples, Note, Sheet, Voice, VoiceHeader};
+    ///
+    /// # fn main() -> Result<(), svx::Refusal> {
+    /// // One sample, 64.
+    /// let sheet = Sheet::of(&Voice {
+    ///     header: VoiceHeader { one_shot_hi_samples: 1, ..VoiceHeader::default() },
+    ///     channels: vec![ChannelSamples { octaves: vec![vec![64]] }],
+    ///     ..Voice::default()
+    /// })?;
+    /// let mut frame = [0i16; 2];
+    /// Note::start(0, 65_536, 44_100, 127).fill(&sheet, &mut frame)?;
+    /// assert_eq!(frame, [16_384, 16_384]);
+    /// // Struck half as hard: 16,384 × 64 / 127, cut toward zero.
+    /// Note::start(0, 65_536, 44_100, 64).fill(&sheet, &mut frame)?;
+    /// assert_eq!(frame, [8_256, 8_256]);
+    /// assert_eq!(Note::start(0, 65_536, 44_100, 0).fill(&sheet, &mut frame).unwrap_err().number(), 44);
+    /// # Ok(())
+    /// # }
+    /// ```
+    pub fn start(octave: u8, step: u32, rate: u32, velocity: u8) -> Note {
+        Note::of(ffi::note_start(octave, step, rate, velocity))
     }
 
     /// The note after the key is let go, which is at the frames filled so far. Only the first key-up counts.
@@ -35,7 +58,7 @@ impl Note {
     /// frames weren't over. A frame that is over is silent; so once a block has fewer than it has room for, the note
     /// has ended.
     ///
-    /// Refused by 21 to 25 and 31 to 34; then nothing is written. (By 10, 13 and 15 to 18 a sheet was judged when it
+    /// Refused by 21 to 25, 31 to 34 and 44; then nothing is written. (By 10, 13 and 15 to 18 a sheet was judged when it
     /// was made.)
     pub fn fill(self, sheet: &Sheet, out: &mut [i16]) -> Result<(Note, u64), Refusal> {
         let (note, sounding) = ffi::note_fill(self.flat(), sheet.bytes(), sheet.left(), sheet.right(), out)?;
@@ -46,6 +69,7 @@ impl Note {
     fn flat(self) -> c::Note {
         c::Note {
             octave: self.octave,
+            velocity: self.velocity,
             step: self.step,
             rate: self.rate,
             frames: self.frames,
@@ -58,6 +82,7 @@ impl Note {
     fn of(note: c::Note) -> Note {
         Note {
             octave: note.octave,
+            velocity: note.velocity,
             step: note.step,
             rate: note.rate,
             frames: note.frames,

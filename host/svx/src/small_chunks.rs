@@ -64,9 +64,9 @@ impl ChannelAssignment {
 /// };
 /// let left = Voice { pan: Some(Pan { position: Pan::LEFT }), ..right.clone() };
 /// let mut frame = [0i16; 2];
-/// Note::start(0, 65_536, 44_100).fill(&Sheet::of(&right)?, &mut frame)?;
+/// Note::start(0, 65_536, 44_100, 127).fill(&Sheet::of(&right)?, &mut frame)?;
 /// assert_eq!(frame, [0, 16_384]);
-/// Note::start(0, 65_536, 44_100).fill(&Sheet::of(&left)?, &mut frame)?;
+/// Note::start(0, 65_536, 44_100, 127).fill(&Sheet::of(&left)?, &mut frame)?;
 /// assert_eq!(frame, [16_384, 0]);
 /// # Ok(())
 /// # }

@@ -48,6 +48,7 @@ fn any_note(r: &mut Xorshift) -> Note {
     let near = |r: &mut Xorshift, good: u32| if r.one_in(6) { r.odd_u32() } else { good };
     Note {
         octave: r.byte() % if r.one_in(8) { 255 } else { 3 },
+        velocity: if r.one_in(6) { r.byte() } else { 1 + r.byte() % 127 },
         step: near(r, 70_000),
         rate: near(r, 8_000),
         frames: near(r, 20),
@@ -102,7 +103,7 @@ fn use_sheet(r: &mut Xorshift, sheet: &Sheet) {
         envelope.level_at_ms(0, r.next());
     }
     let (note, mut out) = (any_note(r), vec![77; r.below(40)]);
-    let fills: Vec<u32> = (21..=25).chain(31..=34).collect();
+    let fills: Vec<u32> = (21..=25).chain(31..=34).chain([44]).collect();
     match judge(note.fill(sheet, &mut out), &fills) {
         Some((after, sounding)) => {
             assert!(sounding <= out.len() as u64 / 2 && after.key_up == note.key_up);

@@ -20,13 +20,14 @@ fn is_written_again() {
 fn is_played() {
     let sheet = Sheet::read(&EXAMPLE).unwrap();
     let mut block = [77; 6];
-    let (note, sounding) = Note::start(0, 65_536, 8_000).fill(&sheet, &mut block).unwrap();
+    let (note, sounding) = Note::start(0, 65_536, 8_000, 127).fill(&sheet, &mut block).unwrap();
     assert_eq!(block, [-512, -512, 0, 0, 0, 0]);
     assert_eq!(sounding, 1);
     assert_eq!(
         note,
         Note {
             octave: 0,
+            velocity: 127,
             step: 65_536,
             rate: 8_000,
             frames: 3,

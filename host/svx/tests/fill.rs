@@ -1,11 +1,12 @@
 //! Notes: refusals of fills, blocks, key-ups.
 mod common;
-use common::{envelope, full_voice, header, mono, play, sequenced};
+use common::{envelope, full_voice, header, mono, play, sequenced, EXAMPLE};
 use svx::{ChannelAssignment, ChannelSamples, Note, Pan, Seqn, SeqnSegment, Sheet, Voice, VoiceHeader};
 
 /// A note that nothing turns back on a voice of one octave.
 const GOOD: Note = Note {
     octave: 0,
+    velocity: 127,
     step: 65_536,
     rate: 8_000,
     frames: 0,
@@ -108,6 +109,7 @@ fn in_order() {
     let sheet = Sheet::of(&sequenced(None, None)).unwrap();
     let mut note = Note {
         octave: 9,
+        velocity: 128,
         step: 0,
         rate: 0,
         frames: 0,
@@ -121,6 +123,10 @@ fn in_order() {
     assert_eq!(refusal(note, &sheet, 0), 33);
     note.rate = 1;
     assert_eq!(refusal(note, &sheet, 0), 34);
+    note.frames = 1;
+    assert_eq!(refusal(note, &sheet, 0), 44);
+    note.velocity = 127;
+    assert_eq!(refusal(note, &sheet, 0), 0);
 }
 
 /// Two octaves with a loop, an attack and a release that lasts longer than a block.
@@ -138,9 +144,9 @@ fn rich_voice() -> Voice {
     }
 }
 
-/// A note of 5,000 frames with a key-up at frame 2,345, in blocks of so many.
-fn with_key_up(sheet: &Sheet, block: usize) -> (Vec<i16>, u64, Note) {
-    let (mut held, sounding, note) = play(sheet, Note::start(1, 90_001, 11_025), 2_345, block);
+/// A note of 5,000 frames with a key-up at frame 2,345, struck so hard, in blocks of so many.
+fn with_key_up(sheet: &Sheet, velocity: u8, block: usize) -> (Vec<i16>, u64, Note) {
+    let (mut held, sounding, note) = play(sheet, Note::start(1, 90_001, 11_025, velocity), 2_345, block);
     assert_eq!(sounding, 2_345);
     let (released, tail, note) = play(sheet, note.key_up(), 2_655, block);
     held.extend(released);
@@ -150,7 +156,7 @@ fn with_key_up(sheet: &Sheet, block: usize) -> (Vec<i16>, u64, Note) {
 #[test]
 fn blocks_cancel() {
     let sheet = Sheet::of(&rich_voice()).unwrap();
-    let (whole, sounding, note) = with_key_up(&sheet, 5_000);
+    let (whole, sounding, note) = with_key_up(&sheet, 100, 5_000);
     assert!(whole.iter().any(|&v| v != 0));
     // The release takes 150 ms of 11,025 frames a second: floor(1000 × f / 11,025) reaches 150 at frame 1,654.
     assert_eq!(sounding, 2_345 + 1_654);
@@ -158,6 +164,7 @@ fn blocks_cancel() {
         note,
         Note {
             octave: 1,
+            velocity: 100,
             step: 90_001,
             rate: 11_025,
             frames: 5_000,
@@ -165,7 +172,7 @@ fn blocks_cancel() {
         }
     );
     for block in [1, 7, 64, 1_000] {
-        let (stem, count, after) = with_key_up(&sheet, block);
+        let (stem, count, after) = with_key_up(&sheet, 100, block);
         let rest: Vec<i16> = whole.iter().zip(&stem).map(|(a, b)| a - b).collect();
         assert!(
             stem.len() == whole.len() && rest.iter().all(|&v| v == 0),
@@ -173,6 +180,48 @@ fn blocks_cancel() {
         );
         assert_eq!((count, after), (sounding, note), "blocks of {block}");
     }
+}
+
+#[test]
+fn by_44_velocity() {
+    let sheet = Sheet::of(&sequenced(None, None)).unwrap();
+    for velocity in 0..=255 {
+        let refused = if (1..=127).contains(&velocity) { 0 } else { 44 };
+        assert_eq!(refusal(Note { velocity, ..GOOD }, &sheet, 2), refused, "{velocity}");
+    }
+}
+
+#[test]
+fn velocity_makes_values_smaller() {
+    // -2 is -512 in full; each velocity gives -512 × velocity / 127, cut toward zero.
+    let sheet = Sheet::read(&EXAMPLE).unwrap();
+    for velocity in 1..=127 {
+        let (out, sounding, after) = play(&sheet, Note { velocity, ..GOOD }, 1, 1);
+        let value = -(512 * i16::from(velocity) as i32 / 127) as i16;
+        assert_eq!((out, sounding), (vec![value; 2], 1), "{velocity}");
+        assert_eq!(after.velocity, velocity);
+    }
+    // 1 at a volume of 256 is 1, and less than all of that is 0; but the frame isn't over.
+    let mut quiet = mono(header(1, 0, 1, 0), vec![vec![1]]);
+    quiet.header.volume = 256;
+    let sheet = Sheet::of(&quiet).unwrap();
+    for (velocity, value) in [(127, 1), (126, 0), (1, 0)] {
+        let (out, sounding, _) = play(&sheet, Note { velocity, ..GOOD }, 2, 2);
+        assert_eq!((out, sounding), (vec![value, value, 0, 0], 1), "{velocity}");
+    }
+}
+
+#[test]
+fn every_call_keeps_the_velocity() {
+    let sheet = Sheet::of(&rich_voice()).unwrap();
+    let (mut note, mut out) = (Note::start(1, 90_001, 11_025, 41), [0; 7]);
+    for places in [2, 7, 0, 6, 5] {
+        note = note.fill(&sheet, &mut out[..places]).map_or(note, |(after, _)| after);
+        assert_eq!(note.velocity, 41);
+        note = note.key_up();
+        assert_eq!(note.velocity, 41);
+    }
+    assert_eq!(Note::start(0, 1, 1, 0).key_up().velocity, 0);
 }
 
 #[test]
@@ -188,11 +237,12 @@ fn key_up_counts_once() {
 
 #[test]
 fn starting_refuses_nothing() {
-    let note = Note::start(255, 0, u32::MAX);
+    let note = Note::start(255, 0, u32::MAX, 200);
     assert_eq!(
         note,
         Note {
             octave: 255,
+            velocity: 200,
             step: 0,
             rate: u32::MAX,
             frames: 0,
@@ -282,7 +332,7 @@ fn a_pan_comes_before_the_channel() {
 #[test]
 fn every_part_plays() {
     let sheet = Sheet::of(&full_voice()).unwrap();
-    let (out, sounding, _) = play(&sheet, Note::start(0, 65_536, 1_000), 20, 3);
+    let (out, sounding, _) = play(&sheet, Note::start(0, 65_536, 1_000, 127), 20, 3);
     // The sequence is 8 and then 4 samples long.
     assert_eq!(sounding, 12);
     assert!(out[..24].iter().any(|&v| v != 0) && out[24..].iter().all(|&v| v == 0));

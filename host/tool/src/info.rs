@@ -192,7 +192,7 @@ fn fade(voice: &Voice) -> String {
 
 /// Whether notes of the voice can be played, asked of the library.
 fn notes(sheet: &Sheet) -> String {
-    match Note::start(0, 65_536, 44_100).fill(sheet, &mut []) {
+    match Note::start(0, 65_536, 44_100, 127).fill(sheet, &mut []) {
         Ok(_) => "can be played".to_string(),
         Err(refusal) => refusal.to_string(),
     }

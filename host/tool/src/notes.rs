@@ -5,8 +5,9 @@ use crate::files::Input;
 use svx::{Note, Refusal, Sheet};
 
 /// The options of a note.
-pub const OPTIONS: [&str; 9] = [
+pub const OPTIONS: [&str; 10] = [
     "--octave",
+    "--velocity",
     "--step",
     "--note-rate",
     "--rate",
@@ -20,6 +21,7 @@ pub const OPTIONS: [&str; 9] = [
 /// Their help, from the first option's name on.
 pub const HELP: &str = "\
   --octave K           which octave plays; 0, the highest, if not given
+  --velocity V         how hard the key is struck, 1 to 127; 127 if not given
   --step N             samples a frame times 65536: 65536 is one sample a frame
   --note-rate HZ       in place of --step: samples of the voice a second; the
                        voice's own rate if not given
@@ -49,6 +51,7 @@ impl Asked {
         given.one_of("--frames", "--seconds")?;
         given.one_of("--key-up", "--key-up-seconds")?;
         let octave = given.number("--octave", 0..=255)?.unwrap_or(0);
+        let velocity = given.number("--velocity", 0..=255)?.unwrap_or(127);
         let rate = given.number("--rate", 0..=LARGEST_32)?.unwrap_or(44_100);
         let note_rate = given.billionths("--note-rate")?;
         let step = match (given.number("--step", 0..=LARGEST_32)?, note_rate) {
@@ -67,7 +70,7 @@ impl Asked {
             .map(|s| frames(s, rate).min(LARGEST_32));
         let key_up = given.number("--key-up", 0..=LARGEST_32)?.or(key_up_seconds);
         Ok(Asked {
-            note: Note::start(octave as u8, step as u32, rate as u32),
+            note: Note::start(octave as u8, step as u32, rate as u32, velocity as u8),
             frames: given.number("--frames", 0..=u64::MAX)?.or(seconds),
             key_up: key_up.map(|frame| frame as u32),
             block: given.number("--block", 1..=1 << 20)?.map(|frames| frames as usize),

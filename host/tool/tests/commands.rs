@@ -479,7 +479,7 @@ fn info_tells_what_places_a_voice() {
 #[test]
 fn stem_writes_what_a_fill_gives() {
     let folder = Folder::new("stem");
-    let (voice, note) = (looped(), Note::start(1, 50_000, 22_050));
+    let (voice, note) = (looped(), Note::start(1, 50_000, 22_050, 127));
     let path = folder.voice("looped.8svx", &voice);
     let options = [
         "--octave=1",
@@ -501,13 +501,38 @@ fn stem_writes_what_a_fill_gives() {
     let ran = run(&[&"stem", &path, &"-", &"--frames=5", &"--step=65536"]).well();
     assert_eq!(
         wav(&ran.bytes),
-        (44_100, filled(&voice, Note::start(0, 65_536, 44_100), 5, None))
+        (44_100, filled(&voice, Note::start(0, 65_536, 44_100, 127), 5, None))
     );
     let path = folder.voice("stereo.8svx", &stereo());
     assert_eq!(
         stem(&folder, &path, &["--step=65536"]).1,
         [256, -32_768, -512, 32_512, 768, 0]
     );
+}
+
+#[test]
+fn stem_strikes_as_hard_as_asked() {
+    let folder = Folder::new("velocity");
+    let (voice, example) = (looped(), folder.file("example.8svx", &EXAMPLE));
+    let path = folder.voice("looped.8svx", &voice);
+    // -512 × 64 / 127 is -258.01, cut toward zero.
+    assert_eq!(stem(&folder, &example, &["--velocity=64"]).1, vec![-258; 12]);
+    // As hard as can be is what a stem has that isn't told.
+    assert_eq!(stem(&folder, &example, &["--velocity", "127"]).1, vec![-512; 12]);
+    let expected = filled(&voice, Note::start(1, 50_000, 22_050, 33), 3_000, Some(1_234));
+    let options = [
+        "--octave=1",
+        "--step=50000",
+        "--rate=22050",
+        "--frames=3000",
+        "--key-up=1234",
+    ];
+    for block in ["--block=1", "--block=7", "--block=4096"] {
+        let asked = [&options[..], &["--velocity=33", block]].concat();
+        assert_eq!(stem(&folder, &path, &asked).1, expected, "{block}");
+    }
+    run(&[&"stem", &path, &folder.path("out.wav"), &"--velocity=256"]).fails(2, "--velocity");
+    run(&[&"stem", &path, &folder.path("out.wav"), &"--velocity=loud"]).fails(2, "--velocity");
 }
 
 #[test]
@@ -528,7 +553,7 @@ fn stem_reckons_steps_and_lengths() {
     );
     // A held loop gets 10 seconds. Let go, it is over after the release's 30 ms.
     assert_eq!(stem(&folder, &path, &["--rate=1000"]).1.len(), 2 * 10_000);
-    let expected = filled(&voice, Note::start(0, 524_288, 1_000), 12_030, Some(12_000));
+    let expected = filled(&voice, Note::start(0, 524_288, 1_000, 127), 12_030, Some(12_000));
     assert_eq!(
         stem(&folder, &path, &["--rate=1000", "--key-up-seconds=12"]),
         (1_000, expected)
@@ -546,6 +571,8 @@ fn a_refused_note_leaves_no_file() {
         ("--step=0", "by 32: "),
         ("--step=16777217", "by 32: "),
         ("--rate=0", "by 33: "),
+        ("--velocity=0", "by 44: "),
+        ("--velocity=128", "by 44: "),
     ];
     for (option, words) in cases {
         run(&[&"stem", &path, &out, &option]).fails(1, words);
@@ -578,6 +605,10 @@ fn null_finds_no_difference() {
         out,
         "blocks of 1: 8,000 frames, 4,240 sounding\n".to_string() + &rest.concat()
     );
+    let out = run(&[&"null", &path, &"--rate=8000", &"--velocity=5", &"--octave=1"])
+        .well()
+        .out;
+    assert_eq!(out.matches(": 0 frames differ, 4,240 sounding").count(), 4);
     let out = run(&[&"null", &path, &"--rate=8000", &"--frames=100", &"--key-up=7"])
         .well()
         .out;
@@ -1234,6 +1265,7 @@ fn every_voice_of_the_repository_is_told_and_played() {
             0,
             (u64::from(voice.header.samples_per_sec) * 65_536 / 44_100) as u32,
             44_100,
+            127,
         );
         let expected = filled(&voice, note, 20_000, Some(15_000));
         assert_eq!(

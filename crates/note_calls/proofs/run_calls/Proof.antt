@@ -1,6 +1,7 @@
 -- `note_calls::run_calls` meets its contract: what is left to play gives the whole.
 -- Assumes nothing.
-use Prim.Native.Nat.{_-_}
+use Prim.Native.Nat.{_+_, _-_, _<_, _^_}
+use native.Mathlib.Omega.{arith}
 use borrow.Author.Needs.{needs}
 use lib.ListN.{length}
 use Rattle.body_read.specs.Sides.{Sides}
@@ -49,8 +50,12 @@ one-call-requires c κs =
     let a = s .args in
     calling-room (a .sheet .now) (sides s) (a .note) (a .calls .now) (a .out .now) (a .answers .now) _ _ _ (o .i) (o .inv) (search needs)
 
+-- where a call is made there is a place past it
+counts-on : (c : tie.After-shared-slice-known3 Inv-loop μ-loop) → c .before .before .loop .i + 1 < 2 ^ 64
+counts-on c = search needs
+
 add-i : tie.Need-add-i Inv-loop μ-loop
-add-i c = search needs
+add-i c = omega (arith, counts-on (step-call c .before .before .before))
 
 loop-less : tie.Need-loop-less Inv-loop μ-loop
 loop-less c = search needs

@@ -12,7 +12,7 @@ use Rattle.note_frame.proofs.chain.before_sides.Statement.{statement}
 use Rattle.note_frame.proofs.chain.before_sides.Tie as tie
 
 abbrev entry : tie.After-fade-by → tie.Start
-entry c = c .before .before .before
+entry c = c .before .before .before .before
 
 sample-is : (s : tie.Start) → toZ w32 (ofZ w32 (toZ w8 (ofZ w8 (s .args .sample)))) ≡ s .args .sample
 sample-is s = widened w8 w32 tt (s .fits .sample)
@@ -32,6 +32,9 @@ scaled-requires c κs = search needs
 scaled-requires-2 : tie.Need-scaled-requires-2
 scaled-requires-2 c κs = search needs
 
+scaled-requires-3 : tie.Need-scaled-requires-3
+scaled-requires-3 c κs = search needs
+
 fade-by-requires : tie.Need-fade-by-requires
 fade-by-requires c κs = search needs
 
@@ -41,16 +44,29 @@ result-is : (c : tie.After-fade-by) →
 unfolding beforeSides
 result-is c =
     let s = entry c in
+    let struck = c .before in
+    let voiced = struck .before in
+    let leveled = voiced .before in
     back w32 (c .fade-by .ok)
     ∙ c .fade-by .ensures
-    ∙ rw (entry, back w32 (c .before .scaled2 .ok), c .before .scaled2 .ensures, back w32 (c .before .before .scaled .ok), c .before .before .scaled .ensures, sample-is s, toZ-ofZ (whole-fits s))
+    ∙ rw (
+      entry,
+      back w32 (struck .scaled3 .ok),
+      struck .scaled3 .ensures,
+      back w32 (voiced .scaled2 .ok),
+      voiced .scaled2 .ensures,
+      back w32 (leveled .scaled .ok),
+      leveled .scaled .ensures,
+      sample-is s,
+      toZ-ofZ (whole-fits s),
+    )
 
 returns : tie.Need-returns
 returns c =
     let s = entry c in
-    rw (result-is c) (refl, before-sides-fits (s .args .g) (s .args .level) (s .args .q) (s .args .sample) (s .pre .0) (s .pre .1) (s .fits .sample))
+    rw (result-is c) (refl, before-sides-fits (s .args .g) (s .args .level) (s .args .q) (s .args .sample) (s .pre .0) (s .pre .1) (s .pre .2) (s .fits .sample))
 
 pub before-sides-spec : {M : Type 1} → statement M
 before-sides-spec =
     tie.close
-    (tie.spec cast-scaled mul-scaled scaled-requires scaled-requires-2 fade-by-requires returns)
+    (tie.spec cast-scaled mul-scaled scaled-requires scaled-requires-2 scaled-requires-3 fade-by-requires returns)

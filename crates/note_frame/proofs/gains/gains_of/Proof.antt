@@ -40,12 +40,13 @@ entry c = sheet-known c .before
 abbrev fade-asked : tie.After-known-told → tie.After-sheet-fade
 fade-asked c = c .before .before .before
 
--- volume and shares
+-- volume, velocity and shares
 unfaded-here : (c : tie.After-sheet-fade) →
     let shares = shares-known c .side-shares .result in
     _≡_ {A = Gains}
     (record {
       volume = c .before .before .full-volume .result;
+      velocity = entry c .args .velocity;
       «left_share» = shares .left;
       «right_share» = shares .right;
       stereo = c .before .sheet-stereo .result;
@@ -53,11 +54,11 @@ unfaded-here : (c : tie.After-sheet-fade) →
       «fade_start» = 0;
       «path_length» = 0;
     })
-    (unfaded (readSheet (entry c .args .sheet .now)))
+    (unfaded (readSheet (entry c .args .sheet .now)) (entry c .args .velocity))
 unfaded-here c =
     let shares = shares-known c in
     let v = readSheet (entry c .args .sheet .now) in
-    unfaded-is v _ (shares .side-shares .result) _
+    unfaded-is v _ _ (shares .side-shares .result) _
     (c .before .before .full-volume .ensures ∙ ap (λ h. min (h .volume) 65536) (header-known shares .sheet-header .ensures))
     (shares .side-shares .ensures ∙ shares-answered (v .channel) (v .pan) _ _ (shares .before .before .sheet-channel .ensures) (shares .before .sheet-pan .ensures))
     (c .before .sheet-stereo .ensures)
@@ -137,14 +138,14 @@ returns c =
     let d = c .before .before in
     let s = entry d in
     let v = readSheet (s .args .sheet .now) in
-    unfaded-here d ∙ sym (gains-unfaded v (s .args .k) (no-fade (v .fade) (sym (d .sheet-fade .ensures) ∙ c .enum-told .given .1)))
+    unfaded-here d ∙ sym (gains-unfaded v (s .args .k) (s .args .velocity) (no-fade (v .fade) (sym (d .sheet-fade .ensures) ∙ c .enum-told .given .1)))
 
 returns-2 : tie.Need-returns-2
 returns-2 c =
     let k = c .before .before in
     c .with-fade .ensures
     ∙ ap (λ (g : Gains). withFade g (k .before .fade .given .0 .0) (segmentsIn (part k)) (start k .args .k)) (unfaded-here (fade-asked k))
-    ∙ sym (gains-faded (readSheet (sheet k)) (start k .args .k) _ _ (fade-here k) (segments-here k .0))
+    ∙ sym (gains-faded (readSheet (sheet k)) (start k .args .k) (start k .args .velocity) _ _ (fade-here k) (segments-here k .0))
 
 pub gains-of-spec : {M : Type 1} → statement M
 gains-of-spec =

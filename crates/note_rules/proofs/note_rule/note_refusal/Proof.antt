@@ -4,7 +4,7 @@ use mathlib.Core.Bool.{not}
 use mathlib.Core.List.{List}
 use mathlib.Core.Path.{sym, ap, _∙_}
 use Rattle.refusal.specs.Rules.{Rule}
-use Rattle.refusal.proofs.RuleLaws.{Passed, first-here, first-later, first-none, first-stands, first-join}
+use Rattle.refusal.proofs.RuleLaws.{Passed, first-here, first-later, first-stands, first-join}
 use Rattle.note_rules.specs.Rules.{speedRules, noteRules}
 use Rattle.note_rules.proofs.RuleLaws.{speed-numbered}
 use borrow.Author.Needs.{needs}
@@ -51,8 +51,13 @@ key-up-ahead-requires c κs = search needs
 returns-3 : tie.Need-returns-3
 returns-3 c = sym (speed-passed (c .before .before) ∙ first-here _ _ (sym (c .before .key-up-ahead .ensures) ∙ c .if3 .taken))
 
+velocity-refusal-requires : tie.Need-velocity-refusal-requires
+velocity-refusal-requires c κs = search needs
+
 returns-4 : tie.Need-returns-4
-returns-4 c = sym (speed-passed (c .before .before) ∙ first-later _ _ (sym (c .before .key-up-ahead .ensures) ∙ c .if3 .left) ∙ first-none)
+returns-4 c =
+    let k = c .before in
+    c .velocity-refusal .ensures ∙ sym (speed-passed (k .before .before) ∙ first-later _ _ (sym (k .before .key-up-ahead .ensures) ∙ k .if3 .left))
 
 pub note-refusal-spec : {M : Type 1} → statement M
 note-refusal-spec =
@@ -64,4 +69,5 @@ note-refusal-spec =
     returns-2
     key-up-ahead-requires
     returns-3
+    velocity-refusal-requires
     returns-4)
