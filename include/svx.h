@@ -92,7 +92,7 @@ uint32_t svx_octave_wave(const uint8_t *sheet, size_t sheet_len, const int8_t *l
  * calls give the same frames, however the frames are cut into blocks. Of a voice with one channel PAN says how much each side gets, where
  * there is a PAN, else CHAN, else both get all of it; two channels have a side each, and their PAN isn't looked at. */
 
-/* velocity is how hard the key was struck, from 1 to 127; values become times velocity / 127, so that 127 leaves them, and every call keeps it.
+/* velocity is how hard the key was struck, from 1 to 127: a value becomes times velocity / 127, so 127 leaves it. Every call keeps the velocity.
  * step: 65,536 is one sample a frame; rate is the output's, in frames a second; frames is how many were filled. key_up is the frame of the
  * key-up, and 0 while the note is held: of a note handed in with released false it is ignored, and it comes back as 0, from every call. */
 typedef struct {

@@ -84,8 +84,13 @@ fadedAt v k q x = fadedIn (v .fade) (v .sequence) k q x
 abbrev pub shareOf : Voice → Shares
 shareOf v = sharesOf (v .channel) (v .pan)
 
--- sample × 256; × level / 65,536; × volume / 65,536; × velocity / 127; the fade; × share / 65,536. Each step cuts toward zero
-unfoldable pub value : Voice → ℕ → ℕ → ℕ → ℕ → ℤ → ℕ → ℤ
+-- a value chain: what a side gets at a step of the path, a level, a sample and the side's share
+abbrev pub Chain : Type 0
+Chain = ℕ → ℕ → ℤ → ℕ → ℤ
+
+-- the chain of a voice in octave k, struck at a velocity: sample × 256; × level / 65,536; × volume / 65,536; × velocity / 127; the fade;
+-- × share / 65,536. Each step cuts toward zero
+unfoldable pub value : Voice → ℕ → ℕ → Chain
 value v k velocity q level sample share =
     scaledBy (fadedAt v k q (scaledBy (scaledBy (scaledBy (sample *ℤ pos 256) level 65536) (volumeOf v) 65536) velocity 127)) share 65536
 
@@ -98,10 +103,6 @@ silent = record { left = pos 0; right = pos 0; sounds = false }
 -- what the right side plays: of two channels its own samples, else the left ones
 abbrev pub rightSamples : Voice → Sides → List ℤ
 rightSamples v s = cond (isStereo (v .channel)) (s .right) (s .left)
-
--- a value chain: what a step, a level, a sample and a side's share give
-abbrev pub Chain : Type 0
-Chain = ℕ → ℕ → ℤ → ℕ → ℤ
 
 -- the frame of step q by a chain, whose sample lies at a place, at a level; without either it is over
 unfoldable pub frameAt : Voice → Sides → Chain → ℕ → Option ℕ → Option ℕ → Frame

@@ -2,16 +2,16 @@
 -- isn't over without. It is proved as `velocityStep`.
 use Prim.Native.Nat.{ℕ}
 use mathlib.Core.Path.{_≡_}
-use lib.IntN.{ℤ, pos, _*ℤ_}
+use lib.IntN.{pos, _*ℤ_}
 use Rattle.envelope.specs.Level.{scaledBy}
 use Rattle.sheet.specs.Voice.{Voice}
 use Rattle.body_read.specs.Sides.{Sides}
-use Rattle.note_frame.specs.Frame.{volumeOf, fadedAt, frameBy, frame}
+use Rattle.note_frame.specs.Frame.{volumeOf, fadedAt, Chain, frameBy, frame}
 use Rattle.note_frame.specs.declared.chain.Frame.{Frame}
 use Rattle.note_frame.specs.declared.playing.Playing.{Playing}
 
 -- the chain without the velocity's step: sample × 256; × level / 65,536; × volume / 65,536; the fade; × share / 65,536
-unfoldable pub valueWithoutVelocity : Voice → ℕ → ℕ → ℕ → ℤ → ℕ → ℤ
+unfoldable pub valueWithoutVelocity : Voice → ℕ → Chain
 valueWithoutVelocity v k q level sample share =
     scaledBy (fadedAt v k q (scaledBy (scaledBy (sample *ℤ pos 256) level 65536) (volumeOf v) 65536)) share 65536
 

@@ -197,7 +197,7 @@ fn velocity_makes_values_smaller() {
     let sheet = Sheet::read(&EXAMPLE).unwrap();
     for velocity in 1..=127 {
         let (out, sounding, after) = play(&sheet, Note { velocity, ..GOOD }, 1, 1);
-        let value = -(512 * i16::from(velocity) as i32 / 127) as i16;
+        let value = -(512 * i32::from(velocity) / 127) as i16;
         assert_eq!((out, sounding), (vec![value; 2], 1), "{velocity}");
         assert_eq!(after.velocity, velocity);
     }
