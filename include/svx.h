@@ -196,8 +196,8 @@ SvxPan svx_pan_weights(int32_t position);
  * It isn't clamped. */
 float svx_volume_f32(uint32_t volume);
 
-/* The largest magnitude of samples and a place that has it.
- * -128 counts as 128; which of equal places is free. */
+/* The largest magnitude of samples, -128 counting as 128, and the first place that has it: no sample is louder, no earlier one as loud.
+ * Not found where there are no samples; then the rest is 0. */
 SvxPeak svx_peak(const int8_t *samples, size_t samples_len);
 
 /* The nearest place i to `place`, any number, where sample i - 1 is below 0 and sample i isn't, or the other way round; of two as near

@@ -97,7 +97,11 @@ pub fn sheet_judge(sheet: &[u8]) -> u32 { unsafe { svx_sheet_judge(sheet.as_ptr(
 pub fn frequency(rate: u16, per_cycle: u32) -> Frequency { unsafe { svx_hi_cycle_frequency_hz(rate, per_cycle) } }
 pub fn pan_weights(position: i32) -> Pan { unsafe { svx_pan_weights(position) } }
 pub fn volume_f32(volume: u32) -> f32 { unsafe { svx_volume_f32(volume) } }
-pub fn peak(samples: &[i8]) -> Peak { unsafe { svx_peak(samples.as_ptr(), samples.len()) } }
+pub fn peak(samples: &[i8]) -> Option<(u8, u64)> {
+    let p = unsafe { svx_peak(samples.as_ptr(), samples.len()) };
+    assert!(p.found || (p.magnitude, p.place) == (0, 0));
+    p.found.then_some((p.magnitude, p.place))
+}
 pub fn nearest_crossing(samples: &[i8], place: u64, reach: u64) -> Result<u64, u32> {
     let mut i = UNSET;
     let r = unsafe { svx_nearest_crossing(samples.as_ptr(), samples.len(), place, reach, &mut i) };

@@ -7,11 +7,13 @@
 //!     compare note-long N [SEED] the same in blocks of fewer than 20,000 frames
 //!     compare wave N [SEED]      octaves as WAVE files against a plain version (plain_wave.rs), and taken apart again
 //!     compare crossing N [SEED]  the nearest crossing against a plain version (plain_crossing.rs)
+//!     compare peak N [SEED]      the first peak against a plain version (plain_peak.rs)
 //!     compare list               the fixed list that the gate replays, on standard output (see list.rs)
-//!     compare bench              speed against the original and, for notes, WAVE files and crossings, against the plain versions
+//!     compare bench              speed against the original and, for notes, WAVE files, crossings and peaks, against the plain versions
 //!     compare note-bench         the notes alone
 //!     compare wave-bench         the WAVE files alone
 //!     compare crossing-bench     the crossings alone
+//!     compare peak-bench         the peaks alone
 //!     compare raw FILE OUT       a file's samples as the library reads them, interleaved (for sox.sh)
 //!     compare rewrite FILE OUT   a file read and written again by the library (for sox.sh)
 //!     compare wave-file FILE OUT K  octave K of a file as a WAVE file (for wave.sh)
@@ -29,9 +31,12 @@ mod note;
 mod note_bench;
 mod parse;
 mod parts;
+mod peak;
+mod peak_bench;
 mod plain_crossing;
 mod plain_fibonacci;
 mod plain_note;
+mod plain_peak;
 mod plain_wave;
 mod rust_side;
 mod wave;
@@ -49,16 +54,18 @@ fn main() {
         Some("note-long") => note::run(number(1, 10_000), number(2, 1), 20_000),
         Some("wave") => wave::run(number(1, 1_000_000), number(2, 1)),
         Some("crossing") => crossing::run(number(1, 1_000_000), number(2, 1)),
+        Some("peak") => peak::run(number(1, 1_000_000), number(2, 1)),
         Some("list") => list::run(args.get(1).expect("a folder to write to")),
-        Some("bench") => { bench::run(); note_bench::run(); wave_bench::run(); crossing_bench::run(); }
+        Some("bench") => { bench::run(); note_bench::run(); wave_bench::run(); crossing_bench::run(); peak_bench::run(); }
         Some("note-bench") => note_bench::run(),
         Some("wave-bench") => wave_bench::run(),
         Some("crossing-bench") => crossing_bench::run(),
+        Some("peak-bench") => peak_bench::run(),
         Some("raw") => files::raw(&args[1], &args[2]),
         Some("rewrite") => files::rewrite(&args[1], &args[2]),
         Some("wave-file") => files::wave(&args[1], &args[2], number(3, 0).try_into().expect("an octave")),
         _ => {
-            eprintln!("usage: compare parse|encode|parts|note|note-long|wave|crossing N [SEED] | list FOLDER | bench | note-bench | wave-bench | crossing-bench | raw|rewrite FILE OUT | wave-file FILE OUT K");
+            eprintln!("usage: compare parse|encode|parts|note|note-long|wave|crossing|peak N [SEED] | list FOLDER | bench | note-bench | wave-bench | crossing-bench | peak-bench | raw|rewrite FILE OUT | wave-file FILE OUT K");
             std::process::exit(2);
         }
     }

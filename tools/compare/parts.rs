@@ -1,5 +1,5 @@
 //! What stands beside reading and writing: both codecs, a whole BODY, octaves, loops, levels, pan, volume and frequency.
-use crate::{abi, make, plain_fibonacci};
+use crate::{abi, make, plain_fibonacci, plain_peak};
 use oracle::svx::{self, ChannelSamples, EgPoint, Envelope, Pan, VoiceHeader};
 use oracle::svx_open;
 
@@ -98,12 +98,7 @@ fn floats(r: &mut make::Rng) {
     assert_eq!(got, h.hi_cycle_frequency_hz().map(f64::to_bits), "frequency {h:?}");
     let n = r.below(30) as usize;
     let samples = r.samples(n);
-    let p = abi::peak(&samples);
-    assert_eq!(p.found, n > 0);
-    if n > 0 {
-        assert_eq!(p.magnitude, samples.iter().map(|s| s.unsigned_abs()).max().unwrap());
-        assert_eq!(samples[p.place as usize].unsigned_abs(), p.magnitude);
-    }
+    assert_eq!(abi::peak(&samples), plain_peak::first(&samples), "peak {samples:?}");
 }
 
 pub fn run(n: u64, seed: u64) {
@@ -121,5 +116,5 @@ pub fn run(n: u64, seed: u64) {
     let mut choices = plain_fibonacci::Count::default();
     every_choice(&mut choices);
     println!("  every choice of a nibble: {choices}");
-    println!("  (the peak, which the original hasn't, against a plain search)");
+    println!("  (the peak, which the original hasn't, against a plain version; `compare peak` has longer samples)");
 }

@@ -1,2 +1,3 @@
--- Laws that the proofs cite.
+-- Laws that the proofs cite, and the promise.
 pub mod PeakLaws
+pub mod FirstPeak

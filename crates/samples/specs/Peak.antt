@@ -1,18 +1,28 @@
--- The loudest of samples. -128 counts as 128.
-use mathlib.Core.Path.{_≡_}
+-- The peak of samples: how loud the loudest is, and the first place that is as loud.
+use mathlib.Core.Bool.{cond}
 use mathlib.Core.List.{List, [], _∷_}
-use Prim.Native.Nat.{ℕ, _<_, max}
+use Prim.Native.Nat.{ℕ, suc, max}
+use lib.Dec.{eqb}
 use lib.IntN.{ℤ, pos, natAbs}
-use lib.ListN.{length, getD}
+use lib.ListN.{getD}
 use Rattle.samples.specs.declared.loudness.Loudest.{Loudest}
 use Rattle.samples.specs.declared.loudness.Loudest.the-variants.{Empty, At}
+
+-- how loud sample i is: -128 counts as 128
+abbrev pub magnitudeAt : List ℤ → ℕ → ℕ
+magnitudeAt samples i = natAbs (getD samples i (pos 0))
 
 -- the largest magnitude
 unfoldable pub loudest : List ℤ → ℕ
 loudest [] = 0
 loudest (x ∷ xs) = max (natAbs x) (loudest xs)
 
--- an answer is right: empty for no samples, else the largest magnitude and a place that has it
-abbrev pub PeakIs : List ℤ → Loudest → Type 0
-PeakIs xs Empty = length xs ≡ 0
-PeakIs xs (At magnitude place) = (magnitude ≡ loudest xs) × (place < length xs) × (natAbs (getD xs place (pos 0)) ≡ magnitude)
+-- the first place whose sample has a magnitude; the number of samples where none has it
+unfoldable pub firstWith : ℕ → List ℤ → ℕ
+firstWith m [] = 0
+firstWith m (x ∷ xs) = cond (eqb (natAbs x) m) 0 (suc (firstWith m xs))
+
+-- the peak: the largest magnitude and the first place that has it, or empty where there are no samples
+unfoldable pub peakOf : List ℤ → Loudest
+peakOf [] = Empty
+peakOf (x ∷ xs) = At (loudest (x ∷ xs)) (firstWith (loudest (x ∷ xs)) (x ∷ xs))

@@ -1,8 +1,6 @@
 -- Answers as structs that cross to C.
 use Prim.Native.Nat.{ℕ}
 use mathlib.Core.Bool.{true, false, cond}
-use mathlib.Core.List.{List}
-use mathlib.Core.Path.{_≡_}
 use lib.Dec.{eqb}
 use lib.IntN.{ℤ, pos}
 use lib.Ieee.{binary64, ofInt}
@@ -14,7 +12,7 @@ use Rattle.header.specs.declared.«voice_header».SampleCount.the-variants as c
 use Rattle.header.specs.declared.«voice_header».VoiceHeader.{VoiceHeader}
 use Rattle.octaves.specs.declared.part.Part.{Part}
 use Rattle.octaves.specs.declared.part.Part.the-variants as part
-use Rattle.samples.specs.Peak.{PeakIs}
+use Rattle.samples.specs.declared.loudness.Loudest.{Loudest}
 use Rattle.samples.specs.declared.loudness.Loudest.the-variants as loudest
 use Rattle.sheet.specs.declared.record.RecordStep.{RecordStep}
 use Rattle.sheet.specs.declared.record.RecordStep.the-variants as step
@@ -62,6 +60,7 @@ octaveHeader oneShot repeat octaves = record {
   volume = 0;
 }
 
--- the peak is right: found with its magnitude and a place that has it, or no samples and zeros
-abbrev pub PeakShape : List ℤ → SvxPeak → Type 0
-PeakShape xs r = cond (r .found) (PeakIs xs (loudest.At (r .magnitude) (r .place))) (PeakIs xs loudest.Empty × (r .magnitude ≡ 0) × (r .place ≡ 0))
+-- a peak, zeros where there are no samples
+abbrev pub peakShape : Loudest → SvxPeak
+peakShape (loudest.At magnitude place) = record { found = true; magnitude = magnitude; place = place }
+peakShape loudest.Empty = record { found = false; magnitude = 0; place = 0 }

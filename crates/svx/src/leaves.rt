@@ -12,8 +12,9 @@ ghost use Rattle.envelope.specs.Envelope.{levelAt};
 ghost use Rattle.header.specs.Frequency.{cycleFrequency};
 ghost use Rattle.small_chunks.specs.Envelope.{envelopePoints};
 ghost use Rattle.header_volume.specs.Volume.{volumeFloat};
+ghost use Rattle.samples.specs.Peak.{peakOf};
 ghost use Rattle.svx.specs.Answers.{crossingNumber, crossingPlace};
-ghost use Rattle.svx.specs.Shapes.{frequencyOf, weightsAt, PeakShape};
+ghost use Rattle.svx.specs.Shapes.{frequencyOf, weightsAt, peakShape};
 
 // Where it isn't known, hertz is 0.
 #[repr(C)]
@@ -85,7 +86,7 @@ pub extern "C" fn svx_volume_f32(volume: u32) -> f32
 
 #[no_mangle]
 pub extern "C" fn svx_peak(samples: &[i8]) -> SvxPeak
-    ensures { λ r. ⌜ PeakShape (now (samples .entry)) r ⌝ }
+    ensures { λ r. ⌜ r ≡ peakShape (peakOf (now (samples .entry))) ⌝ }
 {
     match peak(samples) {
         Loudest::Empty => SvxPeak {

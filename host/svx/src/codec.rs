@@ -47,11 +47,14 @@ pub fn decode_body(body: &[u8], compression: u8, channels: u16, frames: u64) -> 
     Ok(bytes)
 }
 
-/// The largest magnitude of samples, where -128 counts as 128, and a place that has it; none where there are no
-/// samples. Which of equally loud places it is isn't promised.
+/// The largest magnitude of samples, where -128 counts as 128, and the first place that has it; none where there are no
+/// samples. So a display's marker stays where it is, however many samples are as loud.
 ///
 /// ```
-/// assert_eq!(svx::peak(&[3, -128, 7]), Some((128, 1)));
+/// let samples = [3, -7, 7, 2, -7];
+/// let (magnitude, place) = svx::peak(&samples).unwrap();
+/// assert_eq!((magnitude, place, samples[place]), (7, 1, -7));
+/// assert_eq!(svx::peak(&[127, -128]), Some((128, 1)));
 /// assert_eq!(svx::peak(&[]), None);
 /// ```
 pub fn peak(samples: &[i8]) -> Option<(u8, usize)> {

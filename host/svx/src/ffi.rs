@@ -236,7 +236,7 @@ pub fn volume_f32(volume: u32) -> f32 {
     unsafe { svx_volume_f32(volume) }
 }
 
-/// The largest magnitude and a place that has it, where there are samples.
+/// The largest magnitude and the first place that has it, where there are samples.
 pub fn peak(samples: &[i8]) -> Option<(u8, u64)> {
     // SAFETY: as the module says.
     let peak = unsafe { svx_peak(samples.as_ptr(), samples.len()) };

@@ -7,6 +7,7 @@
 //! - A [`Sheet`] is a voice as it is played. A [`Note`] plays it, block by block.
 //! - [`Sheet::octave_wave`] writes an octave of a voice as a RIFF WAVE file.
 //! - [`ChannelSamples::nearest_crossing`] finds the quiet spot beside the end of a loop.
+//! - [`peak`] finds the loudest sample, the first where several are as loud.
 //! - What can be turned back answers a [`Refusal`], which has a number and words. Nothing here panics, whatever the
 //!   input.
 //!

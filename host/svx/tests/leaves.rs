@@ -198,8 +198,19 @@ fn floats() {
 fn peaks() {
     assert_eq!(svx::peak(&[]), None);
     assert_eq!(svx::peak(&[0]), Some((0, 0)));
-    let (magnitude, place) = svx::peak(&[5, -128, 127, -128]).unwrap();
-    assert!(magnitude == 128 && [1, 3].contains(&place));
+    assert_eq!(svx::peak(&[5, -128, 127, -128]), Some((128, 1)));
+    assert_eq!(svx::peak(&[127, -127, 127]), Some((127, 0)), "the first of equals");
+    assert_eq!(svx::peak(&[0; 1_000]), Some((0, 0)));
+    // Two as loud at any places, a softer one before them, in as many samples as a few blocks have.
+    for first in 0..300 {
+        for last in [first, first + 1, first + 128, 499] {
+            let mut samples = vec![1; 500];
+            samples[first / 2] = 99;
+            samples[last] = 100;
+            samples[first] = -100;
+            assert_eq!(svx::peak(&samples), Some((100, first)), "{first} and {last}");
+        }
+    }
 }
 
 #[test]

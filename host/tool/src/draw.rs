@@ -16,8 +16,10 @@ pub const DRAW: Command = Command {
     help: "\
 Draws the voice FILE to OUT.svg (- is standard output): the waveform of each
 octave with its loop part shaded, the loop's ends marked, and how far from each
-the nearest crossing is (svx crossing --help tells what that is); below them the
-level of a note over time, the key being let go where the attack ends.",
+the nearest crossing is (svx crossing --help tells what that is); on each
+waveform a mark with the value of its loudest sample, the first where several
+are as loud; below them the level of a note over time, the key being let go
+where the attack ends.",
     flags: &[],
     values: &[],
     files: 2..=2,
@@ -28,6 +30,10 @@ const TITLE: &str = r##"font-size="22" font-weight="bold" fill="#222222""##;
 const SUBTITLE: &str = r##"font-size="12" fill="#555555""##;
 const LOOP: &str = r##"fill="#e3ecf8""##;
 const END: &str = r##"fill="#2f5d9b""##;
+const PEAK: &str = r##"fill="#c92a2a" stroke="#ffffff""##;
+const PEAK_LABEL: &str = r##"font-size="11" fill="#c92a2a""##;
+/// What is behind a peak's label, so that it can be read on a wave.
+const PAPER: &str = r##"fill="#ffffff" fill-opacity="0.85""##;
 /// The waves of the channels.
 const INKS: [&str; 2] = ["#1f3b63", "#7a3420"];
 
@@ -119,6 +125,7 @@ fn octave(svg: &mut Svg, voice: &Voice, k: usize, top: f64) -> f64 {
         }
         ends(svg, voice, channel, k, &area);
         wave(svg, voice, channel, k, &area, INKS[i % 2]);
+        peak(svg, octave_of(channel, k), &area);
         if voice.channel_count() > 1 {
             let side = if i == 0 { "left" } else { "right" };
             svg.text((14.0, area.top + height / 2.0 + 4.0), Anchor::Start, LABEL, side);
@@ -188,10 +195,14 @@ fn ends(svg: &mut Svg, voice: &Voice, channel: &ChannelSamples, k: usize, area: 
     );
 }
 
+/// An octave's samples of a channel.
+fn octave_of(channel: &ChannelSamples, k: usize) -> &[i8] {
+    channel.octaves.get(k).map_or(&[], Vec::as_slice)
+}
+
 /// How far the nearest crossing to a place is.
 fn crossing(channel: &ChannelSamples, k: usize, place: u64) -> String {
-    let octave = channel.octaves.get(k).map_or(&[][..], Vec::as_slice);
-    match svx::nearest_crossing(octave, place as usize, usize::MAX).map(|i| i as u64) {
+    match svx::nearest_crossing(octave_of(channel, k), place as usize, usize::MAX).map(|i| i as u64) {
         Ok(i) if i == place => "on a crossing".to_string(),
         Ok(i) if i < place => format!("nearest crossing {} earlier", grouped(place - i)),
         Ok(i) => format!("nearest crossing {} later", grouped(i - place)),
@@ -213,7 +224,7 @@ fn wave(svg: &mut Svg, voice: &Voice, channel: &ChannelSamples, k: usize, area: 
         let x = area.x(one_shot as f64);
         svg.line((x, area.top), (x, area.bottom()), MARK);
     }
-    let samples = channel.octaves.get(k).map_or(&[][..], Vec::as_slice);
+    let samples = octave_of(channel, k);
     if samples.is_empty() {
         let middle = ((LEFT + RIGHT) / 2.0, area.top + area.height / 2.0 - 6.0);
         svg.text(middle, Anchor::Middle, SMALL, "no samples");
@@ -225,6 +236,36 @@ fn wave(svg: &mut Svg, voice: &Voice, channel: &ChannelSamples, k: usize, area: 
         svg.element("path", &format!(r#"d="{}" {look}"#, band(samples, area)));
     }
     area.frame(svg);
+}
+
+/// A mark on the loudest of a channel's samples, the first where several are as loud, with its value.
+fn peak(svg: &mut Svg, samples: &[i8], area: &Area) {
+    let Some((_, place)) = svx::peak(samples) else {
+        return;
+    };
+    let value = samples[place];
+    // The middle of the step that the sample is drawn as.
+    let (x, y) = (area.x(place as f64 + 0.5), height(area, value));
+    peak_label(svg, (x, y), value, area);
+    let (x, y) = (number(x), number(y));
+    svg.element("circle", &format!(r#"cx="{x}" cy="{y}" r="3.5" {PEAK}"#));
+}
+
+/// The value of a peak: past it, where no wave is, or beside it where there is no room.
+fn peak_label(svg: &mut Svg, (x, y): (f64, f64), value: i8, area: &Area) {
+    let words = format!("peak {value}");
+    let width = 6.5 * words.len() as f64;
+    let past = if value < 0 { y + 14.0 } else { y - 7.0 };
+    if past - 10.0 > area.top && past + 4.0 < area.bottom() {
+        let middle = x.clamp(LEFT + width / 2.0, RIGHT - width / 2.0);
+        svg.text((middle, past), Anchor::Middle, PEAK_LABEL, &words);
+        return;
+    }
+    let room = x + width + 10.0 < RIGHT;
+    let left = if room { x + 8.0 } else { x - 8.0 - width };
+    let base = (y + 4.0).clamp(area.top + 13.0, area.bottom() - 5.0);
+    svg.rect([left - 2.0, base - 10.0, width + 4.0, 13.0], PAPER);
+    svg.text((left, base), Anchor::Start, PEAK_LABEL, &words);
 }
 
 /// The place of a sample's value.

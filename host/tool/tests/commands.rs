@@ -1114,6 +1114,59 @@ fn draw_marks_the_ends_of_loops() {
     assert_eq!(marks(&drawn(&folder, &unplayable())), 0);
 }
 
+/// The labels of the peaks, and where the marks are, in the order of the picture.
+fn peaks(svg: &str) -> (Vec<&str>, Vec<(&str, &str)>) {
+    fn between<'a>(text: &'a str, from: &str, to: &str) -> Option<&'a str> {
+        text.split_once(from)?.1.split_once(to).map(|(found, _)| found)
+    }
+    let labels = svg.lines().filter_map(|line| between(line, ">peak ", "<"));
+    let place = |line| Some((between(line, "cx=\"", "\"")?, between(line, "cy=\"", "\"")?));
+    let marks = svg
+        .lines()
+        .filter(|line| line.starts_with("<circle ") && line.contains("#c92a2a"));
+    (labels.collect(), marks.filter_map(place).collect())
+}
+
+#[test]
+fn draw_marks_the_first_peak_of_each_octave() {
+    let folder = Folder::new("peaks");
+    let mut voice = looped();
+    let octave = |n: usize, loud: &[(usize, i8)]| {
+        let mut samples = vec![3; n];
+        loud.iter().for_each(|(place, value)| samples[*place] = *value);
+        samples
+    };
+    // Of samples as loud as each other the first has the mark, whichever way they go.
+    voice.channels = vec![ChannelSamples {
+        octaves: vec![
+            octave(12, &[(2, -40), (5, 40), (11, -40)]),
+            octave(24, &[(0, 127), (20, -128), (23, -128)]),
+        ],
+    }];
+    let svg = drawn(&folder, &voice);
+    let (labels, places) = peaks(&svg);
+    assert_eq!(labels, ["-40", "-128"], "once in each octave");
+    // A twelfth of 880 is the width of a sample, and 84 where the first begins; the mark is in its middle.
+    assert_eq!(places.iter().map(|(x, _)| *x).collect::<Vec<_>>(), ["267.3", "835.7"]);
+    assert_eq!(places.len(), labels.len());
+    // Two channels have a peak each, at an end of the picture too, and silence has its first sample.
+    voice.channel = Some(ChannelAssignment::Stereo);
+    voice.channels.push(ChannelSamples {
+        octaves: vec![octave(12, &[(11, 127)]), vec![0; 24]],
+    });
+    let svg = drawn(&folder, &voice);
+    assert_eq!(peaks(&svg).0, ["-40", "127", "-128", "0"]);
+    // Without samples there is none.
+    voice = looped();
+    voice.header = VoiceHeader::default();
+    voice.channels = vec![ChannelSamples { octaves: vec![vec![]] }];
+    let svg = drawn(&folder, &voice);
+    assert!(
+        peaks(&svg).0.is_empty() && peaks(&svg).1.is_empty() && svg.contains("no samples"),
+        "{svg}"
+    );
+}
+
 #[test]
 fn a_picture_of_many_samples_stays_small() {
     let folder = Folder::new("large-picture");
