@@ -36,7 +36,7 @@ fn every_list(t: &mut Tally) {
     }
 }
 
-/// Two samples of a length as loud as each other, at every two places, and one a little less loud before them.
+/// Two samples as loud as each other, at every two places of so many samples, and one a little less loud before them.
 fn every_two_places(t: &mut Tally, n: usize) {
     for i in 0..n {
         for j in i..n {
@@ -55,7 +55,7 @@ pub fn run(n: u64, seed: u64) {
     for length in [1, 2, 127, 128, 129, 255, 256, 257, 300, 385] { every_two_places(&mut t, length); }
     for _ in 0..n {
         let length = r.below(1_500) as usize;
-        // as it comes, or quiet, so that few are as loud as the loudest, or most
+        // as they come, or shifted down, so that many are as loud as the loudest; into half of them up to three loud ones are put
         let mut s = r.samples(length);
         let (shift, few) = (r.below(9), r.once(2));
         s.iter_mut().for_each(|x| *x = if shift > 7 { 0 } else { *x >> shift });

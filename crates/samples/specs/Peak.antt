@@ -17,7 +17,7 @@ unfoldable pub loudest : List ℤ → ℕ
 loudest [] = 0
 loudest (x ∷ xs) = max (natAbs x) (loudest xs)
 
--- the first place whose sample has a magnitude; the number of samples where none has it
+-- the first place whose sample has magnitude m; the number of samples where none has it
 unfoldable pub firstWith : ℕ → List ℤ → ℕ
 firstWith m [] = 0
 firstWith m (x ∷ xs) = cond (eqb (natAbs x) m) 0 (suc (firstWith m xs))

@@ -77,22 +77,25 @@ fn loudest_block(samples: &[i8]) -> LoudestBlock
     ensures start { λ r. ⌜ r .start ≤ firstWith (loudest (now (samples .entry))) (now (samples .entry)) ⌝ }
 {
     let n = samples.len();
-    let mut magnitude = 0;
+    let mut best = 0;
     let mut start = 0;
     let mut i = 0;
     while i < n {
         let end = block_end(i, n);
         let here = largest_magnitude(&samples[i..end]);
-        if magnitude < here {
-            magnitude = here;
+        if best < here {
+            best = here;
             start = i;
         }
         i = end;
     }
-    LoudestBlock { magnitude, start }
+    LoudestBlock {
+        magnitude: best,
+        start,
+    }
 }
 
-// The first place with a magnitude, which no sample before a start has.
+// The first place whose sample has magnitude m, which none before the start has.
 fn first_with(samples: &[i8], m: u8, start: usize) -> usize
     requires { ⌜ start ≤ firstWith m (now samples) ⌝ }
     ensures { λ r. ⌜ r ≡ firstWith m (now (samples .entry)) ⌝ }

@@ -1146,16 +1146,18 @@ fn draw_marks_the_first_peak_of_each_octave() {
     let svg = drawn(&folder, &voice);
     let (labels, places) = peaks(&svg);
     assert_eq!(labels, ["-40", "-128"], "once in each octave");
-    // A twelfth of 880 is the width of a sample, and 84 where the first begins; the mark is in its middle.
-    assert_eq!(places.iter().map(|(x, _)| *x).collect::<Vec<_>>(), ["267.3", "835.7"]);
-    assert_eq!(places.len(), labels.len());
+    // Samples lie from 84 on and are 880 wide together; the mark is in the middle of its own. -128 is at the area's foot.
+    assert_eq!(places, [("267.3", "204.6"), ("835.7", "450")]);
     // Two channels have a peak each, at an end of the picture too, and silence has its first sample.
     voice.channel = Some(ChannelAssignment::Stereo);
     voice.channels.push(ChannelSamples {
         octaves: vec![octave(12, &[(11, 127)]), vec![0; 24]],
     });
     let svg = drawn(&folder, &voice);
-    assert_eq!(peaks(&svg).0, ["-40", "127", "-128", "0"]);
+    let (labels, places) = peaks(&svg);
+    assert_eq!(labels, ["-40", "127", "-128", "0"]);
+    let across: Vec<&str> = places.iter().map(|(x, _)| *x).collect();
+    assert_eq!(across, ["267.3", "927.3", "835.7", "102.3"]);
     // Without samples there is none.
     voice = looped();
     voice.header = VoiceHeader::default();

@@ -11,11 +11,11 @@ use Rattle.samples.proofs.loudness.loudest_block.Statement.{statement}
 use Rattle.samples.proofs.loudness.loudest_block.Tie as tie
 
 abbrev Inv-loop : tie.InvT-loop
-Inv-loop samples n magnitude₀ start₀ i₀ magnitude start i =
-    (i ≤ n) × (magnitude ≡ loudest (take i samples)) × (start ≤ firstWith magnitude (take i samples))
+Inv-loop samples n best₀ start₀ i₀ best start i =
+    (i ≤ n) × (best ≡ loudest (take i samples)) × (start ≤ firstWith best (take i samples))
 
 abbrev μ-loop : tie.MeasureT-loop
-μ-loop samples n magnitude₀ start₀ i₀ magnitude start i = n - i
+μ-loop samples n best₀ start₀ i₀ best start i = n - i
 
 abbrev turn : tie.After-largest-magnitude Inv-loop μ-loop → tie.At-loop Inv-loop μ-loop
 turn c = c .before .before .before .before
@@ -61,7 +61,7 @@ loop-again-2 c =
     let xs = l .before .args .samples .now in
     let end = c .before .before .before .block-end .result in
     let more = loudest-part xs (l .loop .i) end (omega arith) in
-    let later = first-no-earlier xs (l .loop .i) end (omega arith) (l .loop .magnitude) in
+    let later = first-no-earlier xs (l .loop .i) end (omega arith) (l .loop .best) in
     (omega arith, omega (arith, more, c .if1 .left), omega (arith, later))
 
 returns : tie.Need-returns Inv-loop μ-loop
@@ -70,7 +70,7 @@ returns c =
     let xs = l .before .args .samples .now in
     let e : l .loop .i ≡ length xs = omega arith in
     let all : take (l .loop .i) xs ≡ xs = rw e (take-length xs) in
-    let largest : l .loop .magnitude ≡ loudest xs = rw all at (l .loop .inv .1) in
+    let largest : l .loop .best ≡ loudest xs = rw all at (l .loop .inv .1) in
     (largest, rw (← largest) (rw all at (l .loop .inv .2)))
 
 pub loudest-block-spec : {M : Type 1} → statement M
