@@ -133,11 +133,11 @@ SvxFilled svx_note_fill(SvxNote note, const uint8_t *sheet, size_t sheet_len, co
 uint32_t svx_decode_body(const uint8_t *body, size_t body_len, uint8_t compression, uint16_t channels, uint64_t frames, uint8_t *out,
                          size_t out_len, uint64_t *length);
 
-/* The samples of a Fibonacci channel.
+/* The samples of a Fibonacci channel, each sum in a signed byte, which wraps from 127 to -128 and back.
  * Refused by 12, 20. */
 uint32_t svx_fibonacci_decode_channel(const uint8_t *body, size_t body_len, int8_t *out, size_t out_len, uint64_t *length);
 
-/* A channel's samples as Fibonacci bytes, each by the step that leads nearest, of those as near the smallest.
+/* A channel's samples as Fibonacci bytes, each by the step that leads nearest, its sum wrapped, of those as near the smallest.
  * Refused by 20. */
 uint32_t svx_fibonacci_encode_channel(const int8_t *samples, size_t samples_len, uint8_t *out, size_t out_len, uint64_t *length);
 

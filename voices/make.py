@@ -82,9 +82,9 @@ DELTAS = (-34, -21, -13, -8, -5, -3, -2, -1, 0, 1, 2, 3, 5, 8, 13, 21)
 
 @lru_cache(maxsize=None)
 def fibonacci_step(running, target):
-    """The nibble that comes nearest to the target, sums being held within a sample's range, and the sample that it leads to. Of nibbles
-    as near as each other it is the one whose delta is nearest to 0, as the library writes it."""
-    reached = [max(-128, min(127, running + delta)) for delta in DELTAS]
+    """The nibble that comes nearest to the target, by a sum in a signed byte, which wraps, and the sample that it leads to. Of nibbles as
+    near as each other it is the one whose delta is nearest to 0, as the library writes it."""
+    reached = [(running + delta + 128) % 256 - 128 for delta in DELTAS]
     nibble = min(range(16), key=lambda n: (abs(reached[n] - target), abs(DELTAS[n])))
     return nibble, reached[nibble]
 

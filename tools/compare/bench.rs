@@ -8,15 +8,15 @@ use std::time::Instant;
 pub fn voice(r: &mut make::Rng, samples: usize, stereo: bool, compression: u8) -> Voice {
     let h = VoiceHeader { one_shot_hi_samples: samples as u32, repeat_hi_samples: 0, samples_per_hi_cycle: 0, samples_per_sec: 8000, ct_octave: 1, compression_byte: compression, volume: 65536 };
     let count = if stereo { 2 } else { 1 };
-    let channels = (0..count).map(|_| ChannelSamples { octaves: vec![walk(r, samples)] }).collect();
+    let channels = (0..count).map(|_| ChannelSamples { octaves: vec![walk(r, samples, 20, -128, 127)] }).collect();
     let channel = if stereo { Some(ChannelAssignment::Stereo) } else { None };
     Voice::default().with_header(h).with_channel(channel).with_channels(channels)
 }
 
-/// Samples that wander, as sound does.
-fn walk(r: &mut make::Rng, n: usize) -> Vec<i8> {
+/// Samples that wander, as sound does, in steps of at most so much and within these ends.
+pub fn walk(r: &mut make::Rng, n: usize, most: i32, least: i32, largest: i32) -> Vec<i8> {
     let mut s = 0i32;
-    (0..n).map(|_| { s = (s + r.below(41) as i32 - 20).clamp(-128, 127); s as i8 }).collect()
+    (0..n).map(|_| { s = (s + r.below(2 * most as u64 + 1) as i32 - most).clamp(least, largest); s as i8 }).collect()
 }
 
 /// Seconds of the best of some passes.

@@ -1,4 +1,5 @@
-//! Voices: the library's file or refusal against the original's.
+//! Voices: the library's file or refusal against the original's; Fibonacci channels in which a candidate's sum leaves -128..127 or a sample
+//! meets a tie against the plain rule's (plain_fibonacci.rs).
 use crate::{abi, make, parse, plain_fibonacci, rust_side};
 
 /// A voice in flat form: its sheet and both sides.
@@ -16,9 +17,9 @@ pub fn library(s: &[u8], l: &[i8], r: &[i8]) -> Result<Vec<u8>, u32> {
     Ok(file)
 }
 
-/// The file or refusal that is to come out: the original's, but where a Fibonacci channel meets a tie the plain rule's bytes stand in BODY,
-/// which is the last chunk.
-pub fn wanted(v: &oracle::svx::Voice, channels: &mut plain_fibonacci::Count) -> Result<Vec<u8>, u32> {
+/// The file or refusal that is to come out: the original's, but where a candidate's sum in a Fibonacci channel leaves -128..127 or a sample
+/// meets a tie the plain rule's bytes stand in BODY, which is the last chunk.
+pub fn wanted(v: &oracle::svx::Voice, channels: &mut plain_fibonacci::Written) -> Result<Vec<u8>, u32> {
     let mut file = rust_side::encode(v)?;
     if v.header.compression_byte == 1 {
         let sides: Vec<Vec<i8>> = v.channels.iter().map(|c| c.flattened()).collect();
@@ -66,8 +67,8 @@ fn same_rule(h: &oracle::svx::VoiceHeader, want: u32, got: u32) -> bool {
 
 pub fn run(n: u64, seed: u64) {
     let mut counts = [0u64; 21];
-    let (mut skipped, mut back, mut overflowing) = (0u64, 0u64, 0u64);
-    let mut channels = plain_fibonacci::Count::default();
+    let (mut skipped, mut back, mut overflowing, mut survived) = (0u64, 0u64, 0u64, 0u64);
+    let mut channels = plain_fibonacci::Written::default();
     let mut r = make::Rng::new(seed ^ 0xE7C0DE);
     let mut done = 0;
     while done < n {
@@ -97,6 +98,9 @@ pub fn run(n: u64, seed: u64) {
                 if v.header.compression_byte == 0 && tidy(&v) {
                     back += 1;
                     assert_eq!(again, (s, a, b), "the voice after writing and reading");
+                } else if v.header.compression_byte == 1 {
+                    survived += 1;
+                    assert_eq!(library(&s, &again.1, &again.2), Ok(file), "the file after reading and writing");
                 }
             }
         }
@@ -105,6 +109,7 @@ pub fn run(n: u64, seed: u64) {
     let by: Vec<String> = (1..21).filter(|k| counts[*k] > 0).map(|k| format!("{k}: {}", counts[k])).collect();
     println!("  {}; left out, as the flat form can't say them: {skipped}", by.join(", "));
     println!("  Fibonacci channels: {channels}");
+    println!("  Fibonacci files read and written again, the same: {survived}");
     println!("  a total past 64 bits: {overflowing} voices, {} refused by 13 where the original says 18, the others by 10", counts[13]);
     assert!(counts[13] <= overflowing && overflowing <= counts[13] + counts[10], "a voice whose total is past 64 bits was written");
 }

@@ -1,9 +1,16 @@
 //! The fixed list: inputs and the original's answers, replayed by the gate's program `replay`.
 //!
-//! FOLDER/stdin has the cases. A case is a byte (1 reading, 2 writing, 3 writing a Fibonacci channel that meets a tie, 0 the end) and its
-//! slices, each with its length in four bytes, big-endian: the file; or sheet, left and right. FOLDER/stdout has a line for each: the
-//! refusal's number, or the outputs in hexadecimal. The lines of 3 begin with `tie` and aren't the original's: there the channels are by the
-//! plain rule of plain_fibonacci.rs.
+//! FOLDER/stdin has the cases. A case is a byte and its slices, each with its length in four bytes, big-endian: the file; or sheet, left and
+//! right. FOLDER/stdout has a line for each: the refusal's number, or the outputs in hexadecimal. The bytes:
+//!
+//!     0  the end
+//!     1  reading
+//!     2  writing
+//!     3  writing a Fibonacci channel where a sample meets a tie, and no candidate's sum leaves -128..127; the line begins with `tie`
+//!     4  reading a Fibonacci channel where a sum leaves -128..127; the line begins with `wrap`
+//!     5  writing a Fibonacci channel where a candidate's sum leaves -128..127; the line begins with `wrap`
+//!
+//! The lines of 3, 4 and 5 aren't the original's: there the channels are by the plain rule of plain_fibonacci.rs.
 use crate::{encode, make, parse, plain_fibonacci, rust_side};
 use std::fmt::Write;
 
@@ -20,7 +27,7 @@ fn hex(line: &mut String, s: &[u8]) {
     line.push('.');
 }
 
-struct List { cases: Vec<u8>, answers: String, counts: [u32; 21], channels: plain_fibonacci::Count }
+struct List { cases: Vec<u8>, answers: String, counts: [u32; 21], read: plain_fibonacci::Read, written: plain_fibonacci::Written }
 
 impl List {
     fn refused(&mut self, n: u32) {
@@ -29,13 +36,16 @@ impl List {
     }
 
     fn reading(&mut self, file: &[u8]) {
-        self.cases.push(1);
+        let left_out = self.read.left_out;
+        let answer = parse::wanted(file, &mut self.read);
+        let wrap = left_out < self.read.left_out;
+        self.cases.push(if wrap { 4 } else { 1 });
         slice(&mut self.cases, file);
-        match parse::original(file) {
+        match answer {
             Err(n) => self.refused(n),
             Ok((s, l, r)) => {
                 self.counts[0] += 1;
-                let mut line = String::from("voice");
+                let mut line = String::from(if wrap { "wrap voice" } else { "voice" });
                 hex(&mut line, &s);
                 hex(&mut line, &bytes(&l));
                 hex(&mut line, &bytes(&r));
@@ -46,10 +56,14 @@ impl List {
 
     fn writing(&mut self, v: &oracle::svx::Voice) {
         let (s, l, r) = encode::flat(v);
-        let tied = self.channels.tied;
-        let answer = encode::wanted(v, &mut self.channels);
-        let tie = tied < self.channels.tied;
-        self.cases.push(if tie { 3 } else { 2 });
+        let (past, tied) = self.written.marks();
+        let answer = encode::wanted(v, &mut self.written);
+        let (case, words) = match self.written.marks() {
+            (p, _) if p > past => (5, "wrap file"),
+            (_, t) if t > tied => (3, "tie file"),
+            _ => (2, "file"),
+        };
+        self.cases.push(case);
         slice(&mut self.cases, &s);
         slice(&mut self.cases, &bytes(&l));
         slice(&mut self.cases, &bytes(&r));
@@ -57,7 +71,7 @@ impl List {
             Err(n) => self.refused(n),
             Ok(file) => {
                 self.counts[0] += 1;
-                let mut line = String::from(if tie { "tie file" } else { "file" });
+                let mut line = String::from(words);
                 hex(&mut line, &file);
                 writeln!(self.answers, "{line}").unwrap();
             }
@@ -72,7 +86,7 @@ const EXAMPLE: [u8; 50] = [
 ];
 
 pub fn run(folder: &str) {
-    let mut list = List { cases: Vec::new(), answers: String::new(), counts: [0; 21], channels: Default::default() };
+    let mut list = List { cases: Vec::new(), answers: String::new(), counts: [0; 21], read: Default::default(), written: Default::default() };
     list.reading(&EXAMPLE);
     for n in [0, 11, 12, 39, 40, 48, 49] { list.reading(&EXAMPLE[..n]); }
     let mut r = make::Rng::new(20261115);
@@ -81,7 +95,7 @@ pub fn run(folder: &str) {
     room[0] = 120;
     while room[..15].iter().any(|n| *n > 0) {
         let file = make::file(&mut r);
-        let k = parse::original(&file).map_or_else(|n| n as usize, |_| 0);
+        let k = rust_side::parse(&file).map_or_else(|n| n as usize, |_| 0);
         if room[k] == 0 || file.len() > 400 { continue; }
         room[k] -= 1;
         list.reading(&file);
@@ -100,5 +114,8 @@ pub fn run(folder: &str) {
     std::fs::write(format!("{folder}/stdin"), &list.cases).expect("written");
     std::fs::write(format!("{folder}/stdout"), &list.answers).expect("written");
     println!("{cases} cases; accepted and refused by number: {:?}", list.counts);
-    println!("Fibonacci channels written: {}; {} cases are marked", list.channels, list.answers.lines().filter(|l| l.starts_with("tie")).count());
+    println!("Fibonacci channels written: {}", list.written);
+    println!("Fibonacci channels read: {}", list.read);
+    let marked = |mark: &str| list.answers.lines().filter(|l| l.starts_with(mark)).count();
+    println!("lines that begin with `tie`: {}, `wrap voice`: {}, `wrap file`: {}", marked("tie "), marked("wrap voice "), marked("wrap file "));
 }

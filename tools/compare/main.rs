@@ -1,15 +1,16 @@
 //! Compares the library with the original Rust module, input by input.
 //!
-//!     compare parse N [SEED]     files: refusal or sheet and samples
-//!     compare encode N [SEED]    voices: refusal or file; Fibonacci channels that meet a tie by a plain rule (plain_fibonacci.rs)
-//!     compare parts N [SEED]     codecs (the same), octaves, loops, levels, floats
+//!     compare parse N [SEED]     files: refusal or sheet and samples; Fibonacci channels whose sums wrap by a plain rule (plain_fibonacci.rs)
+//!     compare encode N [SEED]    voices: refusal or file; Fibonacci channels that meet a wrap or a tie by the same rule
+//!     compare parts N [SEED]     codecs (the same, and quiet sound, most of it against the original), octaves, loops, levels, floats
 //!     compare note N [SEED]      notes: fills and key-ups against a plain note, written from the specification (plain_note.rs)
 //!     compare note-long N [SEED] the same in blocks of fewer than 20,000 frames
 //!     compare wave N [SEED]      octaves as WAVE files against a plain version (plain_wave.rs), and taken apart again
 //!     compare crossing N [SEED]  the nearest crossing against a plain version (plain_crossing.rs)
 //!     compare peak N [SEED]      the first peak against a plain version (plain_peak.rs)
-//!     compare list               the fixed list that the gate replays, on standard output (see list.rs)
+//!     compare list FOLDER        the fixed list that the gate replays, written to a folder (see list.rs)
 //!     compare bench              speed against the original and, for notes, WAVE files, crossings and peaks, against the plain versions
+//!     compare fibonacci-bench    both Fibonacci codecs alone, by kind of sound
 //!     compare note-bench         the notes alone
 //!     compare wave-bench         the WAVE files alone
 //!     compare crossing-bench     the crossings alone
@@ -24,6 +25,7 @@ mod c;
 mod crossing;
 mod crossing_bench;
 mod encode;
+mod fibonacci_bench;
 mod files;
 mod list;
 mod make;
@@ -56,7 +58,8 @@ fn main() {
         Some("crossing") => crossing::run(number(1, 1_000_000), number(2, 1)),
         Some("peak") => peak::run(number(1, 1_000_000), number(2, 1)),
         Some("list") => list::run(args.get(1).expect("a folder to write to")),
-        Some("bench") => { bench::run(); note_bench::run(); wave_bench::run(); crossing_bench::run(); peak_bench::run(); }
+        Some("bench") => { bench::run(); fibonacci_bench::run(); note_bench::run(); wave_bench::run(); crossing_bench::run(); peak_bench::run(); }
+        Some("fibonacci-bench") => fibonacci_bench::run(),
         Some("note-bench") => note_bench::run(),
         Some("wave-bench") => wave_bench::run(),
         Some("crossing-bench") => crossing_bench::run(),
@@ -65,7 +68,7 @@ fn main() {
         Some("rewrite") => files::rewrite(&args[1], &args[2]),
         Some("wave-file") => files::wave(&args[1], &args[2], number(3, 0).try_into().expect("an octave")),
         _ => {
-            eprintln!("usage: compare parse|encode|parts|note|note-long|wave|crossing|peak N [SEED] | list FOLDER | bench | note-bench | wave-bench | crossing-bench | peak-bench | raw|rewrite FILE OUT | wave-file FILE OUT K");
+            eprintln!("usage: compare parse|encode|parts|note|note-long|wave|crossing|peak N [SEED] | list FOLDER | bench | fibonacci-bench | note-bench | wave-bench | crossing-bench | peak-bench | raw|rewrite FILE OUT | wave-file FILE OUT K");
             std::process::exit(2);
         }
     }

@@ -1,13 +1,41 @@
-//! Files: the library's refusal, sheet and samples against the original's.
-use crate::{abi, make, rust_side};
+//! Files: the library's refusal, sheet and samples against the original's; samples of a Fibonacci channel in which a sum leaves -128..127
+//! against the plain rule's (plain_fibonacci.rs).
+use crate::{abi, make, parts, plain_fibonacci, rust_side};
 
 /// What reading a file gives: its sheet and both sides, or a number.
 pub type Reading = Result<(Vec<u8>, Vec<i8>, Vec<i8>), u32>;
 
-pub fn original(file: &[u8]) -> Reading {
+/// What is to come out: the original's reading, but where a sum of a Fibonacci channel leaves -128..127 the samples are by the plain rule.
+pub fn wanted(file: &[u8], channels: &mut plain_fibonacci::Read) -> Reading {
     let v = rust_side::parse(file)?;
-    Ok((rust_side::flat(&v), rust_side::side(&v, 0), rust_side::side(&v, 1)))
+    let (sheet, mut sides) = (rust_side::flat(&v), [rust_side::side(&v, 0), rust_side::side(&v, 1)]);
+    for (side, bytes) in sides.iter_mut().zip(fibonacci_channels(file, &sheet)) { *side = channels.wanted(bytes, side); }
+    let [left, right] = sides;
+    Ok((sheet, left, right))
 }
+
+/// The bytes of an accepted file's Fibonacci channels: BODY, or its halves if there are two; none if the file is raw.
+fn fibonacci_channels<'a>(file: &'a [u8], sheet: &[u8]) -> Vec<&'a [u8]> {
+    // the compression's byte
+    if sheet[16] != 1 { return Vec::new(); }
+    let body = body(file);
+    if stereo(sheet) { body.chunks(body.len() / 2).collect() } else { vec![body] }
+}
+
+/// The payload of BODY in an accepted file, by a plain walk.
+fn body(file: &[u8]) -> &[u8] {
+    let number = |at: usize| u32::from_be_bytes(file[at..at + 4].try_into().expect("four bytes")) as usize;
+    let (mut at, end) = (12, file.len().min(8 + number(4)));
+    while at + 8 <= end {
+        let size = number(at + 4);
+        if file[at..at + 4] == *b"BODY" { return &file[at + 8..at + 8 + size]; }
+        at += 8 + size + size % 2;
+    }
+    panic!("an accepted file has a BODY");
+}
+
+/// The sheet says CHAN 6.
+fn stereo(sheet: &[u8]) -> bool { sheet.len() > 22 && sheet[21..23] == [2, 6] }
 
 pub fn library(file: &[u8]) -> Reading {
     let l = abi::voice_lengths(file)?;
@@ -50,18 +78,19 @@ fn accepted(want: &(Vec<u8>, Vec<i8>, Vec<i8>)) {
     let left = abi::side_samples(&want.0, l, r, false);
     assert_eq!(left, abi::Part { there: true, start: 0, length: l }, "left side");
     let right = abi::side_samples(&want.0, l, r, true);
-    let stereo = want.0.len() > 22 && want.0[21..23] == [2, 6];
+    let stereo = stereo(&want.0);
     assert_eq!(right, abi::Part { there: stereo, start: 0, length: if stereo { r } else { 0 } }, "right side");
 }
 
 pub fn run(n: u64, seed: u64) {
     let mut counts = [0u64; 21];
+    let mut channels = plain_fibonacci::Read::default();
     let mut r = make::Rng::new(seed);
     for i in 0..n {
         let file = make::file(&mut r);
-        let (want, got) = (original(&file), library(&file));
+        let (want, got) = (wanted(&file, &mut channels), library(&file));
         if want != got {
-            println!("input {i} of seed {seed} differs\n  file {file:02X?}\n  original {want:?}\n  library {got:?}");
+            println!("input {i} of seed {seed} differs\n  file {file:02X?}\n  wanted {want:?}\n  library {got:?}");
             std::process::exit(1);
         }
         match &want {
@@ -70,10 +99,13 @@ pub fn run(n: u64, seed: u64) {
                 counts[0] += 1;
                 buffers(&file, w, i);
                 accepted(w);
+                fibonacci_channels(&file, &w.0).into_iter().for_each(parts::survives);
             }
         }
     }
     println!("parse: {n} files of seed {seed}, no difference; {} accepted, refused by number:", counts[0]);
     let by: Vec<String> = (1..21).filter(|k| counts[*k] > 0).map(|k| format!("{k}: {}", counts[k])).collect();
     println!("  {}", by.join(", "));
+    println!("  Fibonacci channels: {channels}");
+    println!("  each of them, read whole, survives being written and read again");
 }

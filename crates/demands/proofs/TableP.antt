@@ -24,8 +24,8 @@ unfolding levelAt onTheWay scaledBy value fadedAt sharesOf reckonFrom fillVoice 
     allValid joinedLength framesFrom interleaved sounding frame frameBy frameAt pathOf loopPath levelOf attackLevel heldToUnity
 tableP = record {
   up-and-down = ap gives fibonacci.rises;
-  held-above = ap gives fibonacci.held-high;
-  held-below = ap gives fibonacci.held-low;
+  wraps-above = ap gives fibonacci.wraps-up;
+  wraps-below = ap gives fibonacci.wraps-down;
   one-byte = fibonacci.short;
   one-up = fibonacci.one-up;
   smaller-of-two = fibonacci.tie-up;

@@ -41,10 +41,10 @@ oneSample n = record {
 pub record TableP : Type 0 where
   -- 00 64 F1: 100, 121, 100
   pub up-and-down : fibChannel (0x00 ∷ 0x64 ∷ 0xF1 ∷ []) ≡ gives (pos 100 ∷ pos 121 ∷ pos 100 ∷ [])
-  -- 00 7F F8: 127, 127, 127
-  pub held-above : fibChannel (0x00 ∷ 0x7F ∷ 0xF8 ∷ []) ≡ gives (pos 127 ∷ pos 127 ∷ pos 127 ∷ [])
-  -- 00 80 00: -128 three times
-  pub held-below : fibChannel (0x00 ∷ 0x80 ∷ 0x00 ∷ []) ≡ gives (negsuc 127 ∷ negsuc 127 ∷ negsuc 127 ∷ [])
+  -- 00 7F F8: 127, -108, -108
+  pub wraps-above : fibChannel (0x00 ∷ 0x7F ∷ 0xF8 ∷ []) ≡ gives (pos 127 ∷ negsuc 107 ∷ negsuc 107 ∷ [])
+  -- 00 80 00: -128, 94, 60
+  pub wraps-below : fibChannel (0x00 ∷ 0x80 ∷ 0x00 ∷ []) ≡ gives (negsuc 127 ∷ pos 94 ∷ pos 60 ∷ [])
   -- byte 00 alone: 12
   pub one-byte : fibChannel (0x00 ∷ []) ≡ refuses channelShort
   -- writing 0, 1: 00 00 98

@@ -86,6 +86,8 @@ fn channels() {
     write(&[0, 100, 100]);
     write(&[-128, -128]);
     write(&[127, 127]);
+    write(&[127, -128]);
+    write(&[-128, 127]);
     let none = [0i8; 0];
     write(&none);
 }

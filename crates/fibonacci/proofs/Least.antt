@@ -1,10 +1,10 @@
--- `argmin` is the first place whose key is least, for any keys, and only it is. No other file of laws looks into `less` or `argmin`.
+-- `argmin` is the first place whose key is least, for any keys. No other file of laws looks into `argmin`.
 -- Assumes nothing.
 use mathlib.Core.Path.{_≡_, refl, sym}
 use mathlib.Core.Bool.{Bool, true, false, cond}
 use mathlib.Core.Logic.{⊎-elim}
 use Prim.Native.Nat.{ℕ, zero, suc, _≤_, _<_}
-use native.Mathlib.Nat.{le-refl, le-antisymm, eq-or-lt-of-le, le-of-suc-le-suc}
+use native.Mathlib.Nat.{le-refl, eq-or-lt-of-le, le-of-suc-le-suc}
 use native.Mathlib.Omega.{arith}
 use borrow.Author.Tests.{ltb-true, ltb-false, eqb-true, eqb-false}
 use lib.Dec.{ltb, eqb}
@@ -21,7 +21,7 @@ pub record NoMore (a b : ℕ × ℕ) : Type 0 where
   pub second : a .0 ≡ b .0 → a .1 ≤ b .1
 
 module _ (a b : ℕ × ℕ) where
-  less-yes : less a b ≡ true → Less a b
+  pub less-yes : less a b ≡ true → Less a b
   unfolding less
   less-yes = go (eqb (a .0) (b .0)) refl
     where
@@ -39,11 +39,6 @@ module _ (a b : ℕ × ℕ) where
 
   pub less-weak : Less a b → NoMore a b
   less-weak l = record { first = l .first; second = (λ s. omega (arith, l .second s)) }
-
-  pub less-not : NoMore a b → Less b a → ⊥
-  less-not n l =
-      let same : a .0 ≡ b .0 = omega (arith, n .first, l .first) in
-      omega (arith, n .second same, l .second (omega arith))
 
 pub same-no-more : (a : ℕ × ℕ) → NoMore a a
 same-no-more a = record { first = le-refl _; second = (λ s. le-refl _) }
@@ -90,17 +85,6 @@ module _ (key : ℕ → ℕ × ℕ) where
       none : (k : ℕ) → k < 0 → ⊥
       none k h = omega arith
   argmin-least (suc n) = more n (argmin key n) (argmin key (suc n)) (less (key (suc n)) (key (argmin key n))) refl refl (argmin-least n)
-
-  no-later : (n a b : ℕ) → Least n a → Least n b → b ≤ a
-  no-later n a b p q = go (ltb a b) refl
-    where
-      go : (t : Bool) → ltb a b ≡ t → b ≤ a
-      go true e = absurd (less-not _ _ (p .least b (q .within)) (q .first a (ltb-true a b e)))
-      go false e = ltb-false a b e
-
-  -- there is one such place
-  pub least-one : (n a b : ℕ) → Least n a → Least n b → a ≡ b
-  least-one n a b p q = le-antisymm (no-later n b a q p) (no-later n a b p q)
 
 -- it is the same for keys that are the same at 0..n
 pub argmin-same : (f g : ℕ → ℕ × ℕ) (n : ℕ) → ((k : ℕ) → k ≤ n → f k ≡ g k) → argmin f n ≡ argmin g n

@@ -3,11 +3,12 @@
 use mathlib.Core.Path.{_≡_, refl, ap}
 use mathlib.Core.Bool.{Bool, true, false}
 use Prim.Native.Nat.{ℕ, _≤_, _<_}
+use native.Mathlib.Nat.{le-refl, le-antisymm}
 use native.Mathlib.Omega.{arith}
-use borrow.Author.Tests.{ltb-true, ltb-false}
-use lib.Dec.{ltb}
+use borrow.Author.Tests.{ltb-true, ltb-false, eqb-true, eqb-false}
+use lib.Dec.{eqb, ltb}
 use Rattle.fibonacci.specs.Pick.{deltaSize, nearest}
-use Rattle.fibonacci.proofs.Least.{Less, NoMore, same-no-more, less-weak, Least, argmin-least, argmin-same, least-one}
+use Rattle.fibonacci.proofs.Least.{Least, argmin-least, argmin-same}
 
 module _ (away : ℕ → ℕ) where
   -- no nibble is nearer; of those as near none has a delta nearer to 0; of those none is lower
@@ -39,35 +40,34 @@ module _ (away : ℕ → ℕ) where
       low k e s true q = absurd (omega (arith, l .first k (ltb-true k m q) .second (omega arith)))
       low k e s false q = ltb-false k m q
 
-  -- one nibble comes before another: it leads nearer, or as near and its delta is nearer to 0
-  abbrev pub Before : ℕ → ℕ → Type 0
-  Before a b = Less (key a) (key b)
+  -- there is one such nibble
+  pub nearest-one : (m : ℕ) → Nearest m → m ≡ nearest away
+  nearest-one m p =
+      let n = nearest away in
+      let q = nearest-laws in
+      let as-near : away n ≡ away m = omega (arith, p .near n (q .within), q .near m (p .within)) in
+      let as-large : deltaSize n ≡ deltaSize m = omega (arith, p .small n (q .within) as-near, q .small m (p .within) (omega arith)) in
+      le-antisymm (p .low n (q .within) as-near as-large) (q .low m (p .within) (omega arith) (omega arith))
 
-  pub nearer-before : (a b : ℕ) → away a < away b → Before a b
-  nearer-before a b h = record { first = omega arith; second = (λ s. absurd (omega arith)) }
-
-  pub smaller-before : (a b : ℕ) → away a ≤ away b → deltaSize a < deltaSize b → Before a b
-  smaller-before a b n h = record { first = n; second = (λ s. h) }
-
-  -- a nibble that comes before each other one
-  pub record Alone (m : ℕ) : Type 0 where
-    pub within : m < 16
-    pub lower : (k : ℕ) → k < m → Before m k
-    pub higher : (k : ℕ) → m < k → k < 16 → Before m k
-
-  pub alone-is : (m : ℕ) → Alone m → m ≡ nearest away
-  unfolding nearest
-  alone-is m a = least-one key 15 m (nearest away) record { within = omega (arith, a .within); least = least; first = a .lower } (argmin-least key 15)
+  -- a nibble that alone is nearest is chosen, whatever the rule for equals
+  pub nearest-alone : (m : ℕ) → m < 16 → ((k : ℕ) → k < 16 → (k ≡ m → ⊥) → away m < away k) → m ≡ nearest away
+  nearest-alone m w nearer = nearest-one m record {
+    within = w;
+    near = (λ k h. near k h (eqb k m) refl);
+    small = (λ k h e. rw (same k h e) (le-refl _));
+    low = (λ k h e s. rw (same k h e) (le-refl _));
+  }
     where
-      least : (k : ℕ) → k ≤ 15 → NoMore (key m) (key k)
-      least k h = go (ltb k m) (ltb m k) refl refl
+      near : (k : ℕ) → k < 16 → (t : Bool) → eqb k m ≡ t → away m ≤ away k
+      near k h true q = rw (eqb-true k m q) (le-refl _)
+      near k h false q = omega (arith, nearer k h (eqb-false k m q))
+
+      same : (k : ℕ) → k < 16 → away k ≡ away m → k ≡ m
+      same k h e = go (eqb k m) refl
         where
-          go : (t u : Bool) → ltb k m ≡ t → ltb m k ≡ u → NoMore (key m) (key k)
-          go true u p q = less-weak _ _ (a .lower k (ltb-true k m p))
-          go false true p q = less-weak _ _ (a .higher k (ltb-true m k q) (omega arith))
-          go false false p q =
-              let same : k ≡ m = omega (arith, ltb-false k m p, ltb-false m k q) in
-              rw same (same-no-more _)
+          go : (t : Bool) → eqb k m ≡ t → k ≡ m
+          go true q = eqb-true k m q
+          go false q = absurd (omega (arith, nearer k h (eqb-false k m q)))
 
 -- it is the same for distances that are the same at each nibble
 pub nearest-same : (f g : ℕ → ℕ) → ((k : ℕ) → k < 16 → f k ≡ g k) → nearest f ≡ nearest g

@@ -1,5 +1,5 @@
--- What was decoded survives being written and decoded: a sample that a nibble reaches is reached by the nibble that is picked for it.
--- What the writer wrote is decoded as the samples that it reckoned with. A step and a choice are known by their laws alone.
+-- What was decoded survives being written and decoded, and a whole stream is written as it was: for the sample that a nibble leads to that
+-- nibble is picked. What the writer wrote is decoded as the samples that it reckoned with. A step and a choice are known by their laws alone.
 -- Assumes nothing.
 use mathlib.Core.Path.{_≡_, refl, sym, ap, _∙_}
 use mathlib.Core.Bool.{Bool, true, false}
@@ -13,14 +13,15 @@ use lib.ListN.{length, getD, take, drop}
 use lib.Seq.{take-all}
 use mir.Syntax.{w8}
 use mir.Val.{SFits}
+use Rattle.field.specs.BigEndian.{Bytes}
 use Rattle.field.specs.Signed.{sampleOf}
-use Rattle.field.proofs.SignedLaws.{sample-byte, sample-fits}
+use Rattle.field.proofs.SignedLaws.{sample-byte, byte-sample, sample-fits}
 use Rattle.fibonacci.specs.Step.{fibStep}
 use Rattle.fibonacci.specs.Pick.{fibPick}
 use Rattle.fibonacci.specs.Decode.{nibbles, running, fibSamples}
 use Rattle.fibonacci.specs.Encode.{picks, packed, fibBytes}
 use Rattle.fibonacci.proofs.StepLaws.{step-past}
-use Rattle.fibonacci.proofs.PickLaws.{pick-exact, pick-below}
+use Rattle.fibonacci.proofs.PickLaws.{pick-back, pick-below}
 use Rattle.fibonacci.proofs.DecodeLaws.{nibbles-length, running-length, samples-length, running-first}
 use Rattle.fibonacci.proofs.EncodeLaws.{bytes-length}
 
@@ -59,8 +60,8 @@ step-reached : (s : ℤ) (k : ℕ) → fibStep s (fibPick s (fibStep s k)) ≡ f
 step-reached s k = go (ltb k 16) refl
   where
     go : (t : Bool) → ltb k 16 ≡ t → fibStep s (fibPick s (fibStep s k)) ≡ fibStep s k
-    go true e = pick-exact s k (ltb-true k 16 e)
-    go false e = rw (step-past s k (ltb-false k 16 e)) (pick-exact s 8 (omega arith))
+    go true e = ap (fibStep s) (pick-back s k (ltb-true k 16 e))
+    go false e = rw (step-past s k (ltb-false k 16 e)) (ap (fibStep s) (pick-back s 8 (omega arith)))
 
 running-reached : (s : ℤ) (ks : List ℕ) → running s (picks s (drop 1 (running s ks))) ≡ running s ks
 unfolding running picks
@@ -83,3 +84,34 @@ whole-survives s bs f =
 pub survives : (body : List ℕ) → fibSamples (fibBytes (fibSamples body)) ≡ fibSamples body
 unfolding fibSamples
 survives body = whole-survives (sampleOf (getD body 1 0)) (drop 2 body) (sample-fits (getD body 1 0))
+
+-- ---- a whole stream that was read is written as it was
+
+nibbles-below : (bs : List ℕ) → Bytes bs → (i : ℕ) → getD (nibbles bs) i 0 < 16
+unfolding nibbles
+nibbles-below [] h i = omega arith
+nibbles-below (b ∷ bs) h zero = omega (arith, h 0)
+nibbles-below (b ∷ bs) h (suc zero) = omega arith
+nibbles-below (b ∷ bs) h (suc (suc i)) = nibbles-below bs (λ j. h (suc j)) i
+
+picks-back : (s : ℤ) (ks : List ℕ) → ((i : ℕ) → getD ks i 0 < 16) → picks s (drop 1 (running s ks)) ≡ ks
+unfolding running picks
+picks-back s [] h = refl
+picks-back s (k ∷ ks) h =
+    let y = fibStep s k in
+    ap (picks s) (running-first y ks) ∙ rw (pick-back s k (h 0)) (ap (λ (l : List ℕ). k ∷ l) (picks-back y ks (λ i. h (suc i))))
+
+packed-back : (bs : List ℕ) → packed (nibbles bs) ≡ bs
+unfolding nibbles packed
+packed-back [] = refl
+packed-back (b ∷ bs) =
+    let whole : b / 16 * 16 + b % 16 ≡ b = omega arith in
+    rw (whole, packed-back bs)
+
+pub stream-back : (body : List ℕ) → Bytes body → 2 ≤ length body → fibBytes (fibSamples body) ≡ 0 ∷ drop 1 body
+unfolding fibSamples fibBytes
+stream-back [] h l = absurd (omega arith)
+stream-back (a ∷ []) h l = absurd (omega arith)
+stream-back (a ∷ (b ∷ bs)) h l =
+    let s = sampleOf b in
+    ap fibBytes (running-first s (nibbles bs)) ∙ rw (byte-sample b (h 1), picks-back s (nibbles bs) (nibbles-below bs (λ i. h (suc (suc i)))), packed-back bs)

@@ -3,4 +3,5 @@ pub mod Step
 pub mod Decode
 pub mod Pick
 pub mod Encode
+pub mod Wrapping
 pub mod Helpers

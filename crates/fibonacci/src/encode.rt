@@ -1,7 +1,6 @@
 // A channel written.
 use crate::pick::NEAREST;
 use crate::pick::fib_pick_nibble;
-use crate::step::fib_step;
 use refusal::Output;
 ghost use mathlib.Core.Path.{_≡_};
 ghost use Prim.Native.Nat.{_+_, _/_, _≤_};
@@ -23,10 +22,9 @@ fn pack_pair(table: &[u8], prev: i8, a: i8, b: i8) -> PackedPair
     ensures { λ r. ⌜ r ≡ packedPair prev a b ⌝ }
 {
     let high = fib_pick_nibble(table, prev, a);
-    let middle = fib_step(prev, high);
-    let low = fib_pick_nibble(table, middle, b);
-    let last = fib_step(middle, low);
-    let byte = high * 16 + low;
+    let low = fib_pick_nibble(table, high.sample, b);
+    let byte = high.nibble * 16 + low.nibble;
+    let last = low.sample;
     PackedPair { byte, last }
 }
 
@@ -53,7 +51,8 @@ fn encode_samples(table: &[u8], samples: &[i8], out: &mut [u8])
     if n % 2 == 0 {
         let last = n - 1;
         let at = 2 + pairs;
-        out[at] = fib_pick_nibble(table, prev, samples[last]) * 16 + 8;
+        let picked = fib_pick_nibble(table, prev, samples[last]);
+        out[at] = picked.nibble * 16 + 8;
     }
 }
 

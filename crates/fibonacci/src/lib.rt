@@ -2,6 +2,7 @@
 mod decode;
 mod encode;
 mod pick;
+mod search;
 mod step;
 
 pub use decode::decode_first;

@@ -8,7 +8,7 @@ ghost use Rattle.fibonacci.specs.Step.{deltas, toSample, fibStep};
 const DELTAS: [i8; 16] = [-34, -21, -13, -8, -5, -3, -2, -1, 0, 1, 2, 3, 5, 8, 13, 21];
 
 // A nibble's delta.
-pub(crate) fn delta(nibble: u8) -> i8
+fn delta(nibble: u8) -> i8
     requires { ⌜ nibble < 16 ⌝ }
     ensures { λ r. ⌜ r ≡ getD deltas nibble (pos 0) ⌝ }
 {
@@ -16,18 +16,13 @@ pub(crate) fn delta(nibble: u8) -> i8
     DELTAS[i]
 }
 
-// The sum of two samples, held within -128..127.
-fn sample_sum(a: i8, b: i8) -> i8
+// The sum of two samples in a signed byte, which wraps: 127 and 1 make -128.
+pub(crate) fn sample_sum(a: i8, b: i8) -> i8
     ensures { λ r. ⌜ r ≡ toSample (a +ℤ b) ⌝ }
 {
-    let sum = a as i16 + b as i16;
-    if sum < -128 {
-        -128
-    } else if 127 < sum {
-        127
-    } else {
-        sum as i8
-    }
+    let x = field::byte_of_sample(a);
+    let y = field::byte_of_sample(b);
+    field::sample_of_byte(std::num::wrapping_add_u8(x, y))
 }
 
 // The sample that follows `prev` by a nibble.

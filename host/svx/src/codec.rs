@@ -2,10 +2,12 @@
 use crate::ffi;
 use crate::Refusal;
 
-/// The samples of a Fibonacci-coded channel. Refused by 12.
+/// The samples of a Fibonacci-coded channel. Each step is added in a signed byte, which wraps, as in the published listing:
+/// loud voices were packed so. Refused by 12.
 ///
 /// ```
 /// assert_eq!(svx::fibonacci_decode_channel(&[0x00, 0x64, 0xF1]), Ok(vec![100, 121, 100]));
+/// assert_eq!(svx::fibonacci_decode_channel(&[0x00, 0x7F, 0xF8]), Ok(vec![127, -108, -108]));
 /// ```
 pub fn fibonacci_decode_channel(body: &[u8]) -> Result<Vec<i8>, Refusal> {
     // The first two bytes give one sample, each further one two.
@@ -16,13 +18,16 @@ pub fn fibonacci_decode_channel(body: &[u8]) -> Result<Vec<i8>, Refusal> {
 }
 
 /// A channel's samples, Fibonacci-coded. The coding isn't exact: a sample is as near as a step of at most 34 down or 21
-/// up from the one before can bring it. Of two steps that bring it as near the smaller is taken, up and down alike, so that
-/// quiet passages stay about the centre line.
+/// up from the one before can bring it, past 127 on from -128 and the other way. Of two steps that bring it as near the smaller
+/// is taken, up and down alike, so that quiet passages stay about the centre line. A channel that was decoded is written as
+/// it was, but for its first byte, which is written as 0.
 ///
 /// ```
 /// let coded = svx::fibonacci_encode_channel(&[0, 4, 0, -4, 0]);
 /// assert_eq!(coded, [0x00, 0x00, 0xB5, 0x5B]);
 /// assert_eq!(svx::fibonacci_decode_channel(&coded), Ok(vec![0, 3, 0, -3, 0]));
+/// // from 127 to -128 it is one step up
+/// assert_eq!(svx::fibonacci_encode_channel(&[127, -128]), [0x00, 0x7F, 0x98]);
 /// ```
 pub fn fibonacci_encode_channel(samples: &[i8]) -> Vec<u8> {
     let mut bytes = vec![0; samples.len() / 2 + 2];

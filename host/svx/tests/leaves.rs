@@ -11,11 +11,11 @@ fn fibonacci_decoded() {
     );
     assert_eq!(
         svx::fibonacci_decode_channel(&[0x00, 0x7F, 0xF8]).unwrap(),
-        [127, 127, 127]
+        [127, -108, -108]
     );
     assert_eq!(
         svx::fibonacci_decode_channel(&[0x00, 0x80, 0x00]).unwrap(),
-        [-128, -128, -128]
+        [-128, 94, 60]
     );
     assert_eq!(svx::fibonacci_decode_channel(&[0x55, 0x03]).unwrap(), [3]);
     for short in [&[][..], &[0]] {
@@ -31,7 +31,7 @@ fn fibonacci_encoded() {
     assert_eq!(svx::fibonacci_encode_channel(&[]), [0x00, 0x00]);
 }
 
-/// Of steps that lead as near the smallest is taken: midway between two deltas, and where several are held at an end.
+/// Of steps that lead as near the smallest is taken, near the ends of the range too.
 #[test]
 fn fibonacci_equal_distances() {
     assert_eq!(svx::fibonacci_encode_channel(&[0, 4]), [0x00, 0x00, 0xB8]);
@@ -49,6 +49,20 @@ fn fibonacci_equal_distances() {
     assert!(up.iter().zip(&down).all(|(a, b)| *a == -b));
 }
 
+/// Sums are those of a signed byte: past 127 they go on from -128, and the other way.
+#[test]
+fn fibonacci_wraps() {
+    assert_eq!(svx::fibonacci_encode_channel(&[127, -128]), [0x00, 0x7F, 0x98]);
+    assert_eq!(svx::fibonacci_encode_channel(&[-128, 127]), [0x00, 0x80, 0x78]);
+    // 8 up from 120 is -128, so it goes 5 up; and 5 down from -124 is 127, so it goes 3 down.
+    assert_eq!(svx::fibonacci_encode_channel(&[120, 127]), [0x00, 0x78, 0xC8]);
+    assert_eq!(svx::fibonacci_encode_channel(&[-124, -128]), [0x00, 0x84, 0x58]);
+    // A square wave from rail to rail is kept, one step each way.
+    let square: Vec<i8> = (0..65).map(|i| if i / 8 % 2 == 0 { 127 } else { -128 }).collect();
+    let coded = svx::fibonacci_encode_channel(&square);
+    assert_eq!(svx::fibonacci_decode_channel(&coded).unwrap(), square);
+}
+
 #[test]
 fn fibonacci_both_ways() {
     let mut r = Xorshift::new(5);
@@ -56,9 +70,9 @@ fn fibonacci_both_ways() {
         let stream = [r.bytes(0), vec![r.byte(), r.byte()], r.bytes(40)].concat();
         let samples = svx::fibonacci_decode_channel(&stream).unwrap();
         assert_eq!(samples.len(), 2 * stream.len() - 3);
-        // Samples that a stream gave are given again, and the first of any samples is kept.
+        // A stream that was read is written as it was, but for byte 0, and the first of any samples is kept.
         let again = svx::fibonacci_encode_channel(&samples);
-        assert_eq!(again.len(), stream.len());
+        assert!(again[0] == 0 && again[1..] == stream[1..]);
         assert_eq!(svx::fibonacci_decode_channel(&again).unwrap(), samples);
         let count = 1 + r.below(40);
         let free = r.samples(count);

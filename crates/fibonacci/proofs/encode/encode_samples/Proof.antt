@@ -142,32 +142,32 @@ shared-slice-copy-out-fib-pick-nibble c = omega arith
 fib-pick-nibble-requires : tie.Need-fib-pick-nibble-requires Inv-loop μ-loop
 fib-pick-nibble-requires c κs = search needs
 
-below : (c : tie.After-fib-pick-nibble Inv-loop μ-loop) → c .fib-pick-nibble .result < 16
+below : (c : tie.After-fib-pick-nibble Inv-loop μ-loop) → c .fib-pick-nibble .result .nibble < 16
 below c = rw (c .fib-pick-nibble .ensures) (pick-below _ _)
 
 mul-out : tie.Need-mul-out Inv-loop μ-loop
-mul-out c = omega (arith, below c)
+mul-out c = omega (arith, below (c .before))
 
 add-out : tie.Need-add-out Inv-loop μ-loop
-add-out c = omega (arith, below c)
+add-out c = omega (arith, below (c .before))
 
 slice-write-out-4 : tie.Need-slice-write-out-4 Inv-loop μ-loop
-slice-write-out-4 c = omega (arith, same-room (loop-end (c .before)))
+slice-write-out-4 c = omega (arith, same-room (loop-end (c .before .before)))
 
 same-length : tie.Need-same-length Inv-loop μ-loop
-same-length c = simp length-set (same-room (loop-end (c .before)))
+same-length c = simp length-set (same-room (loop-end (c .before .before)))
 
 returns : tie.Need-returns Inv-loop μ-loop
 returns c =
-    let at = loop-end (c .before) in
+    let at = loop-end (c .before .before) in
     let l = at .loop in
     let all-pairs : (length (channel at) - 1) / 2 ≡ l .j = omega arith in
     let last : length (channel at) - 1 ≡ 2 * l .j + 1 = omega arith in
     let sample : ℕ → ℤ = λ k. getD (channel at) k (pos 0) in
-    let a-is = back w8 {z = sample (length (channel at) - 1)} (c .before .fib-pick-nibble-arg .given) ∙ ap sample last in
+    let a-is = back w8 {z = sample (length (channel at) - 1)} (c .before .before .fib-pick-nibble-arg .given) ∙ ap sample last in
     let end : 2 + l .j + 1 ≡ length (fibBytes (channel at)) = omega (arith, bytes-length (channel at)) in
     let stored = last-stored (channel at) _ (l .j) _ (l .inv .3) _ (omega arith) a-is _ _ (l .inv .2) (omega (arith, same-room at)) in
-    ended at _ (at .before .byte-of-sample .result) (2 + l .j + 1) end (rw (all-pairs, c .fib-pick-nibble .ensures) stored)
+    ended at _ (at .before .byte-of-sample .result) (2 + l .j + 1) end (rw (all-pairs, c .before .fib-pick-nibble .ensures) stored)
 
 same-length-2 : tie.Need-same-length-2 Inv-loop μ-loop
 same-length-2 c = same-room (c .before .before)
