@@ -1,4 +1,4 @@
--- `argmin` is the first place whose key is least, for any keys. No other file of laws looks into `argmin`.
+-- `argmin` is the first place whose key is least, for any keys. No other file of laws looks into `less` or `argmin`.
 -- Assumes nothing.
 use mathlib.Core.Path.{_≡_, refl, sym}
 use mathlib.Core.Bool.{Bool, true, false, cond}
@@ -21,7 +21,7 @@ pub record NoMore (a b : ℕ × ℕ) : Type 0 where
   pub second : a .0 ≡ b .0 → a .1 ≤ b .1
 
 module _ (a b : ℕ × ℕ) where
-  pub less-yes : less a b ≡ true → Less a b
+  less-yes : less a b ≡ true → Less a b
   unfolding less
   less-yes = go (eqb (a .0) (b .0)) refl
     where

@@ -8,7 +8,7 @@ use native.Mathlib.Nat.{le-refl, eq-or-lt-of-le, le-of-suc-le-suc}
 use native.Mathlib.Numerals.{add-one}
 use native.Mathlib.Omega.{arith}
 use borrow.Author.Tests.{ltb-true, ltb-false, eqb-true, eqb-false}
-use lib.Dec.{T, eqb, ltb}
+use lib.Dec.{eqb, ltb, ltb→lt, eqb→eq}
 use lib.IntN.{ℤ, pos, natAbs, _+ℤ_, _-ℤ_}
 use lib.ListN.{getD}
 use mir.Syntax.{w8}
@@ -16,9 +16,8 @@ use mir.Val.{SFits}
 use Rattle.laws.proofs.Signed.{zarith, known, diff, abs-parts}
 use Rattle.laws.proofs.Table.{allBelow, below}
 use Rattle.fibonacci.specs.Step.{deltas, toSample}
-use Rattle.fibonacci.specs.Pick.{less, deltaSize, distance, fibPick}
+use Rattle.fibonacci.specs.Pick.{deltaSize, distance, fibPick}
 use Rattle.fibonacci.specs.Helpers.{bySize, keyAt, leastOf}
-use Rattle.fibonacci.proofs.Least.{Less, less-yes}
 use Rattle.fibonacci.proofs.StepLaws.{step-fits, step-sum}
 use Rattle.fibonacci.proofs.NearestLaws.{Nearest}
 use Rattle.fibonacci.proofs.PickLaws.{pick-is}
@@ -42,10 +41,6 @@ odd-place i n = go (eqb (i % 2) 0) refl
 abbrev placeOf : ℕ → ℕ
 placeOf k = cond (ltb k 8) (15 - 2 * k) (2 * (k - 8))
 
-is-true : (t : Bool) → T t → t ≡ true
-is-true true h = refl
-is-true false h = absurd h
-
 record Placed (k : ℕ) : Type 0 where
   within : placeOf k < 16
   is : bySize (placeOf k) ≡ k
@@ -53,21 +48,22 @@ record Placed (k : ℕ) : Type 0 where
 placed : (k : ℕ) → k < 16 → Placed k
 unfolding bySize
 placed k h = record {
-  within = ltb-true _ _ (is-true _ (below (λ k. ltb (placeOf k) 16) 16 tt k h));
-  is = eqb-true _ _ (is-true _ (below (λ k. eqb (bySize (placeOf k)) k) 16 tt k h));
+  within = ltb→lt _ _ (below (λ k. ltb (placeOf k) 16) 16 tt k h);
+  is = eqb→eq _ _ (below (λ k. eqb (bySize (placeOf k)) k) 16 tt k h);
 }
 
-pub by-size-below : (i : ℕ) → i < 16 → bySize i < 16
+by-size-below : (i : ℕ) → i < 16 → bySize i < 16
 unfolding bySize
-by-size-below i h = ltb-true _ _ (is-true _ (below (λ i. ltb (bySize i) 16) 16 tt i h))
+by-size-below i h = ltb→lt _ _ (below (λ i. ltb (bySize i) 16) 16 tt i h)
+
+-- a delta's size, and below it the nibble
+abbrev sizeAt : ℕ → ℕ
+sizeAt i = deltaSize (bySize i) * 16 + bySize i
 
 -- earlier are the smaller deltas, and of two as large the lower nibble
-earlier : (i j : ℕ) → i < j → j < 16 → Less (deltaSize (bySize i), bySize i) (deltaSize (bySize j), bySize j)
-unfolding bySize deltaSize deltas less
-earlier i j h l = less-yes _ _ (is-true _ (below (λ i. test i j) j (below (λ j. allBelow (λ i. test i j) j) 16 tt j l) i h))
-  where
-    test : ℕ → ℕ → Bool
-    test i j = less (deltaSize (bySize i), bySize i) (deltaSize (bySize j), bySize j)
+earlier : (i j : ℕ) → i < j → j < 16 → sizeAt i < sizeAt j
+unfolding bySize deltaSize deltas
+earlier i j h l = ltb→lt _ _ (below (λ i. ltb (sizeAt i) (sizeAt j)) j (below (λ j. allBelow (λ i. ltb (sizeAt i) (sizeAt j)) j) 16 tt j l) i h)
 
 -- ---- keys
 
@@ -155,9 +151,9 @@ module _ (prev target : ℤ) (f : SFits w8 target) where
           (rw same (le-refl _), λ s. rw same (le-refl _))
       go k h e false q =
           let p = placed k h in
-          let before = earlier (at .place) (placeOf k) (omega (arith, no-worse k h .early e, eqb-false (placeOf k) (at .place) q)) (p .within) in
-          let is = p .is in
-          (rw is at (before .first), λ s. omega (arith, rw is at (before .second) (sym s)))
+          let later : sizeAt (at .place) < sizeAt (placeOf k) = earlier (at .place) (placeOf k) (omega (arith, no-worse k h .early e, eqb-false (placeOf k) (at .place) q)) (p .within) in
+          let order : deltaSize m * 16 + m < deltaSize k * 16 + k = rw (p .is) at later in
+          (omega arith, λ s. omega arith)
 
   place-is : leastOf (keyAt prev target) 16 % 16 ≡ at .place
   unfolding keyAt

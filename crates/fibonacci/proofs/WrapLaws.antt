@@ -2,11 +2,11 @@
 -- Assumes nothing.
 use mathlib.Core.Path.{_≡_, refl, sym, ap, _∙_}
 use mathlib.Core.Bool.{Bool, true, false, cond}
-use Prim.Native.Nat.{ℕ, suc, _+_, _-_, _%_, _≤_, _<_}
+use Prim.Native.Nat.{ℕ, suc, _+_, _-_, _%_, _<_}
 use native.Mathlib.Omega.{arith}
 use borrow.Author.Tests.{ltb-true, ltb-false}
 use lib.Dec.{ltb}
-use lib.IntN.{ℤ, pos, negsuc, _+ℤ_, _-ℤ_}
+use lib.IntN.{ℤ, pos, negsuc, subℕ, _+ℤ_, _-ℤ_}
 use lib.Signed.{_≤ℤ_, _<ℤ_}
 use mir.Syntax.{w8}
 use mir.Val.{SFits}
@@ -15,21 +15,30 @@ use Rattle.field.specs.Signed.{twosComplementBits, sampleOf, byteOf}
 use Rattle.field.proofs.SignedLaws as field
 use Rattle.fibonacci.specs.Step.{residue, toSample}
 
--- ---- the residue of a sum of two samples is that of the sum of their bytes
+-- ---- residues
 
-by-test : (a b : ℕ) (t : Bool) → a < 128 → b ≤ 128 → ltb a b ≡ t → (a + (256 - b)) % 256 ≡ residue (cond t (negsuc (b - suc a)) (pos (a - b)))
+-- that of a difference
+residue-less : (a b : ℕ) → residue (subℕ a b) ≡ (a + (256 - b % 256)) % 256
 unfolding residue
-by-test a b true h k e = omega (arith, ltb-true a b e)
-by-test a b false h k e = omega (arith, ltb-false a b e)
+residue-less a b = go (ltb a b) refl
+  where
+    go : (t : Bool) → ltb a b ≡ t → residue (cond t (negsuc (b - suc a)) (pos (a - b))) ≡ (a + (256 - b % 256)) % 256
+    go true e = omega (arith, ltb-true a b e)
+    go false e = omega (arith, ltb-false a b e)
 
+-- that of a sum of two samples is that of the sum of their bytes
 pub residue-sum : (a b : ℤ) → SFits w8 a → SFits w8 b → (byteOf a + byteOf b) % 256 ≡ residue (a +ℤ b)
 unfolding residue twosComplementBits
 residue-sum (pos a) (pos b) f g = refl
-residue-sum (pos a) (negsuc b) f g = by-test a (suc b) (ltb a (suc b)) (f .sfits) (g .sfits) refl
-residue-sum (negsuc a) (pos b) f g =
-    let turn : (256 - suc a + b) % 256 ≡ (b + (256 - suc a)) % 256 = omega arith in
-    rw turn (by-test b (suc a) (ltb b (suc a)) (g .sfits) (f .sfits) refl)
+residue-sum (pos a) (negsuc b) f g = omega (arith, residue-less a (suc b), g .sfits)
+residue-sum (negsuc a) (pos b) f g = omega (arith, residue-less b (suc a), f .sfits)
 residue-sum (negsuc a) (negsuc b) f g = omega (arith, f .sfits, g .sfits)
+
+-- numbers that are 256 apart have the same
+residue-turn : (z : ℤ) → residue (z +ℤ pos 256) ≡ residue z
+unfolding residue
+residue-turn (pos n) = omega arith
+residue-turn (negsuc n) = omega (arith, residue-less 256 (suc n))
 
 -- ---- what is brought back
 
@@ -46,16 +55,6 @@ residue-kept (negsuc n) f = omega (arith, f .sfits)
 pub sample-kept : (z : ℤ) → SFits w8 z → toSample z ≡ z
 unfolding toSample
 sample-kept z f = ap sampleOf (residue-kept z f) ∙ field.sample-byte z f
-
-turn-by-test : (n : ℕ) (t : Bool) → ltb 256 (suc n) ≡ t → residue (cond t (negsuc (suc n - 257)) (pos (256 - suc n))) ≡ 255 - n % 256
-unfolding residue
-turn-by-test n true e = omega (arith, ltb-true 256 (suc n) e)
-turn-by-test n false e = omega (arith, ltb-false 256 (suc n) e)
-
-residue-turn : (z : ℤ) → residue (z +ℤ pos 256) ≡ residue z
-unfolding residue
-residue-turn (pos n) = omega arith
-residue-turn (negsuc n) = turn-by-test n (ltb 256 (suc n)) refl
 
 -- sums that are 256 apart are brought back to the same sample
 pub sample-turn : (z : ℤ) → toSample (z +ℤ pos 256) ≡ toSample z
