@@ -1,9 +1,9 @@
 // The writer's choice of a nibble.
 use crate::search::nearest_of_all;
+use crate::step::difference;
 use crate::step::fib_step;
 use crate::step::sample_sum;
 ghost use mathlib.Core.Path.{_≡_};
-ghost use lib.IntN.{_-ℤ_};
 ghost use Rattle.fibonacci.specs.Helpers.{nearestStep, NearestTable, picked};
 
 // For each change from -33 to 21 the nibble whose delta is nearest, by a letter, A for 0 to P for 15; and after these 55 for each change that
@@ -22,13 +22,6 @@ struct NearestStep {
 pub(crate) struct Picked {
     pub(crate) nibble: u8,
     pub(crate) sample: i8,
-}
-
-// By how much a is above b.
-pub(crate) fn difference(a: i8, b: i8) -> i16
-    ensures { λ r. ⌜ r ≡ a -ℤ b ⌝ }
-{
-    a as i16 - b as i16
 }
 
 // The nibble whose delta is nearest to a change.

@@ -1,5 +1,6 @@
-// The nearest of all sixteen nibbles. Their keys are told apart by comparing alone, so that a processor can look at many of them at once.
-use crate::pick::difference;
+// The nearest of all sixteen nibbles. Each has a key, and the least key alone tells which it is: a minimum without a branch, for which a
+// processor can look at many keys at once.
+use crate::step::difference;
 use crate::step::sample_sum;
 ghost use mathlib.Core.Path.{_≡_};
 ghost use Prim.Native.Nat.{_+_, _*_, _<_, min};
@@ -41,6 +42,7 @@ fn key(prev: i8, target: i8, delta: i8, place: u16) -> u16
     apart(sample_sum(prev, delta), target) * 16 + place
 }
 
+// The lesser of two keys.
 fn lesser(a: u16, b: u16) -> u16
     ensures { λ r. ⌜ r ≡ min a b ⌝ }
 {

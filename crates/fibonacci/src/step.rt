@@ -1,7 +1,7 @@
 // One step of the code.
 ghost use mathlib.Core.Path.{_≡_};
 ghost use Prim.Native.Nat.{_<_};
-ghost use lib.IntN.{pos, _+ℤ_};
+ghost use lib.IntN.{pos, _+ℤ_, _-ℤ_};
 ghost use lib.ListN.{getD};
 ghost use Rattle.fibonacci.specs.Step.{deltas, toSample, fibStep};
 
@@ -23,6 +23,13 @@ pub(crate) fn sample_sum(a: i8, b: i8) -> i8
     let x = field::byte_of_sample(a);
     let y = field::byte_of_sample(b);
     field::sample_of_byte(std::num::wrapping_add_u8(x, y))
+}
+
+// By how much a is above b.
+pub(crate) fn difference(a: i8, b: i8) -> i16
+    ensures { λ r. ⌜ r ≡ a -ℤ b ⌝ }
+{
+    a as i16 - b as i16
 }
 
 // The sample that follows `prev` by a nibble.

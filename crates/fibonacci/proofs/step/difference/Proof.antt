@@ -6,8 +6,8 @@ use mir.Syntax.{w8, w16}
 use mir.Val.{SFits, toZ, ofZ}
 use mir.Facts.{toZ-ofZ}
 use Rattle.laws.proofs.Signed.{zarith, known, diff, widens, widened}
-use Rattle.fibonacci.proofs.pick.difference.Statement.{statement}
-use Rattle.fibonacci.proofs.pick.difference.Tie as tie
+use Rattle.fibonacci.proofs.step.difference.Statement.{statement}
+use Rattle.fibonacci.proofs.step.difference.Tie as tie
 
 module _ (s : tie.Start) where
   a-is : toZ w16 (ofZ w16 (toZ w8 (ofZ w8 (s .args .a)))) ≡ s .args .a
