@@ -39,6 +39,9 @@
  * 41  the voice's rate is 0
  * 43  there is no crossing within reach
  * 44  the velocity is 0 or above 127
+ * 45  an entry of the score starts before the entry before it
+ * 46  the score has more than 16 entries
+ * 47  an entry's key-up frame is before its start frame
  * } refusals.txt
  */
 #ifndef SVX_H
@@ -125,6 +128,27 @@ SvxNote svx_note_key_up(SvxNote note);
  * note key_up comes back as 0. */
 SvxFilled svx_note_fill(SvxNote note, const uint8_t *sheet, size_t sheet_len, const int8_t *left, size_t left_len, const int8_t *right,
                         size_t right_len, int16_t *out, size_t out_len);
+
+/* The ensemble. A score of up to 16 timed notes on one voice is mixed to one output: a mixed frame is the sum of what the entries give there,
+ * held within 16 bits once, after summing. The place is all that a host keeps: it begins at 0, and each call is given the one that came
+ * back last. The same score gives the same frames, however they are cut into blocks. */
+
+/* start and key_up are mixed frames: at start the entry's first frame sounds, and before key_up, which may lie ahead of the block, the entry
+ * is held. step, octave and velocity are a note's. In a score no start is below the one before it. */
+typedef struct {
+    uint32_t start;
+    uint32_t key_up;
+    uint32_t step;
+    uint8_t octave;
+    uint8_t velocity;
+} SvxEntry;
+
+/* Fills a buffer with the mixed frames from frame `place` on, left and right by turns as in a note's fill, and gives the place after them. It
+ * stops at 4,294,967,295, and from that frame on all is silent. Refused by 46, then at the first bad entry by 45 or 47, then by 15 to 17,
+ * 10, 13, 18, 21 to 23, 25 in that order, then entry by entry by 24, 31 to 33, 44; an empty score, which is silent, is never refused by 33. */
+uint32_t svx_mix(const SvxEntry *score, size_t score_len, uint32_t rate, uint32_t place, const uint8_t *sheet, size_t sheet_len,
+                 const int8_t *left, size_t left_len, const int8_t *right, size_t right_len, int16_t *out, size_t out_len,
+                 uint32_t *after);
 
 /* BODY and its channels. */
 
@@ -263,6 +287,9 @@ static inline const char *svx_refusal_text(uint32_t number) {
     case 41: return "the voice's rate is 0";
     case 43: return "there is no crossing within reach";
     case 44: return "the velocity is 0 or above 127";
+    case 45: return "an entry of the score starts before the entry before it";
+    case 46: return "the score has more than 16 entries";
+    case 47: return "an entry's key-up frame is before its start frame";
     /* } refusals.txt */
     default: return "unknown refusal";
     }

@@ -3,7 +3,7 @@
 use Prim.Native.Nat.{ℕ, _+_, _-_, _*_, _/_, _%_, _≤_, _<_, min}
 use mathlib.Core.Bool.{Bool, true, false}
 use mathlib.Core.List.{List, _++_}
-use mathlib.Core.Path.{_≡_, refl, sym, ap, _∙_}
+use mathlib.Core.Path.{_≡_, refl, sym, ap, subst, _∙_}
 use native.Mathlib.Nat.{add-zero}
 use native.Mathlib.Omega.{arith}
 use borrow.Author.Tests.{ltb-true, ltb-false}
@@ -16,6 +16,10 @@ use Rattle.note_frame.specs.Frames.{framesFrom, interleaved, sounding}
 use Rattle.note_frame.specs.declared.chain.Frame.{Frame}
 use Rattle.note_stage.specs.Block.{Played}
 use Rattle.note_frame.proofs.FramesLaws.{frames-same, frames-silent, frames-join, interleaved-frames, interleaved-join, interleaved-silent, sounding-join, sounding-silent}
+
+-- a block of as many frames
+pub played-many : (f : ℕ → Frame) (m d d′ : ℕ) (before after : List ℤ) (r : ℕ) → d ≡ d′ → Played f m d before after r → Played f m d′ before after r
+played-many f m d d′ before after r e p = subst (λ (k : ℕ). Played f m k before after r) e p
 
 -- a block of frames that are the same
 pub played-same : (f g : ℕ → Frame) (m d : ℕ) (before after : List ℤ) (r : ℕ) → ((j : ℕ) → m ≤ j → j < m + d → f j ≡ g j) → Played f m d before after r → Played g m d before after r

@@ -2,8 +2,6 @@
 mod silence;
 mod stages;
 
-use crate::silence::least;
-use crate::silence::silence_from;
 use crate::stages::attack_stage;
 use crate::stages::is_there;
 use crate::stages::release_stage;
@@ -17,8 +15,10 @@ use note_stage::play;
 use sheet_layout::Layout;
 use sheet_layout::sheet_header;
 use sheet_layout::sheet_sequence;
+pub use silence::least;
+pub use silence::silence_from;
 ghost use mathlib.Core.Path.{_≡_};
-ghost use Prim.Native.Nat.{_/_};
+ghost use Prim.Native.Nat.{_-_, _/_, min};
 ghost use lib.ListN.{length};
 ghost use Rattle.sheet_layout.specs.Layout.{layoutOf};
 ghost use Rattle.sheet.specs.Judge.{judged};
@@ -68,8 +68,8 @@ fn play_stage(
     }
 }
 
-// Fills the whole buffer with the frames that follow the frames filled; answers how many of them aren't over.
-pub fn next_block(
+// Those of the buffer's frames that aren't over, at its front, and how many; the rest of the buffer is as it was.
+pub fn sounding_block(
     n: Playing,
     frames: u32,
     sheet: &[u8],
@@ -79,8 +79,7 @@ pub fn next_block(
     out: &mut [i16],
 ) -> usize
     requires { ⌜ (judged (now sheet) ≡ Sound) × (l ≡ layoutOf (readSheet (now sheet))) × (firstHolding (fillRules (readSheet (now sheet)) (length (now left)) (length (now right)) n frames (length (now out))) ≡ 0) ⌝ }
-    ensures result { λ r. ⌜ r ≡ sounding (framesFrom (frame (readSheet (now (sheet .entry))) (record { left = now (left .entry); right = now (right .entry) }) n) frames (length (now (out .entry)) / 2)) ⌝ }
-    ensures buffer { λ _. ⌜ now (out .exit) ≡ interleaved (framesFrom (frame (readSheet (now (sheet .entry))) (record { left = now (left .entry); right = now (right .entry) }) n) frames (length (now (out .entry)) / 2)) ⌝ }
+    ensures { λ r. ⌜ BlockPlayed n frames (now (sheet .entry)) (now (left .entry)) (now (right .entry)) (min (length (now (out .entry)) / 2) (4294967295 - frames)) (now (out .entry)) (now (out .exit)) r ⌝ }
 {
     let start = l.sequence;
     let end = l.fade;
@@ -96,7 +95,24 @@ pub fn next_block(
     let g = gains_of(sheet, l, n.octave, n.velocity);
     let room = 4294967295 - frames as usize;
     let d = least(out.len() / 2, room);
-    let count = play_stage(n, frames, sheet, l, g, path, left, right, d, out);
+    play_stage(n, frames, sheet, l, g, path, left, right, d, out)
+}
+
+// Fills the whole buffer with the frames that follow the frames filled; answers how many of them aren't over.
+pub fn next_block(
+    n: Playing,
+    frames: u32,
+    sheet: &[u8],
+    l: Layout,
+    left: &[i8],
+    right: &[i8],
+    out: &mut [i16],
+) -> usize
+    requires { ⌜ (judged (now sheet) ≡ Sound) × (l ≡ layoutOf (readSheet (now sheet))) × (firstHolding (fillRules (readSheet (now sheet)) (length (now left)) (length (now right)) n frames (length (now out))) ≡ 0) ⌝ }
+    ensures result { λ r. ⌜ r ≡ sounding (framesFrom (frame (readSheet (now (sheet .entry))) (record { left = now (left .entry); right = now (right .entry) }) n) frames (length (now (out .entry)) / 2)) ⌝ }
+    ensures buffer { λ _. ⌜ now (out .exit) ≡ interleaved (framesFrom (frame (readSheet (now (sheet .entry))) (record { left = now (left .entry); right = now (right .entry) }) n) frames (length (now (out .entry)) / 2)) ⌝ }
+{
+    let count = sounding_block(n, frames, sheet, l, left, right, out);
     silence_from(out, 2 * count);
     count
 }

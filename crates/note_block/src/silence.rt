@@ -5,7 +5,8 @@ ghost use Prim.Native.Nat.{_-_, _≤_, min};
 ghost use lib.IntN.{pos};
 ghost use lib.ListN.{length, take, replicate};
 
-pub(crate) fn least(a: usize, b: usize) -> usize
+// The smaller of two numbers.
+pub fn least(a: usize, b: usize) -> usize
     ensures { λ r. ⌜ r ≡ min a b ⌝ }
 {
     if a < b {
@@ -15,7 +16,7 @@ pub(crate) fn least(a: usize, b: usize) -> usize
 }
 
 // Zeros from a place on.
-pub(crate) fn silence_from(out: &mut [i16], from: usize)
+pub fn silence_from(out: &mut [i16], from: usize)
     requires { ⌜ from ≤ length (now out) ⌝ }
     ensures { λ _. ⌜ now (out .exit) ≡ take from (now (out .entry)) ++ replicate (length (now (out .entry)) - from) (pos 0) ⌝ }
 {

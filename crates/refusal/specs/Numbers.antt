@@ -131,4 +131,16 @@ noCrossing = 43
 abbrev pub velocity : ℕ
 velocity = 44
 
+-- an entry of the score starts before the entry before it
+abbrev pub startOrder : ℕ
+startOrder = 45
+
+-- the score has more than 16 entries
+abbrev pub entryCount : ℕ
+entryCount = 46
+
+-- an entry's key-up frame is before its start frame
+abbrev pub earlyKeyUp : ℕ
+earlyKeyUp = 47
+
 -- } refusals.txt

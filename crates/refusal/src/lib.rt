@@ -98,6 +98,15 @@ pub const NO_CROSSING: u8 = 43;
 // The velocity is 0 or above 127.
 pub const VELOCITY: u8 = 44;
 
+// An entry of the score starts before the entry before it.
+pub const START_ORDER: u8 = 45;
+
+// The score has more than 16 entries.
+pub const ENTRY_COUNT: u8 = 46;
+
+// An entry's key-up frame is before its start frame.
+pub const EARLY_KEY_UP: u8 = 47;
+
 // } refusals.txt
 
 // How much of a lent buffer was written, or why nothing was.

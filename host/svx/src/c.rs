@@ -21,6 +21,23 @@ pub struct Filled {
     pub note: Note,
 }
 
+/// An entry of a score: one note of a [`mix`](crate::mix()), by its frames in the mix. It is lent to the library as it is, so
+/// it has C's layout.
+#[repr(C)]
+#[derive(Clone, Copy, Debug, PartialEq, Eq)]
+pub struct Entry {
+    /// The mixed frame at which its first frame sounds; not below the start of the entry before it.
+    pub start: u32,
+    /// The mixed frame at which the key is let go; not below the start. Until then it is held, however far ahead this is.
+    pub key_up: u32,
+    /// How far each frame goes on, as in a note; 65,536 is one sample. Up to 16,777,216.
+    pub step: u32,
+    /// Which octave of the voice, 0 the highest.
+    pub octave: u8,
+    /// How hard the key was struck, from 1 to 127.
+    pub velocity: u8,
+}
+
 /// `step` is 0 for a record; the end and both refusals come without one.
 #[repr(C)]
 #[derive(Clone, Copy, Debug, PartialEq)]
@@ -129,6 +146,21 @@ extern "C" {
         out: *mut i16,
         out_len: usize,
     ) -> Filled;
+    pub fn svx_mix(
+        score: *const Entry,
+        score_len: usize,
+        rate: u32,
+        place: u32,
+        sheet: *const u8,
+        sheet_len: usize,
+        left: *const i8,
+        left_len: usize,
+        right: *const i8,
+        right_len: usize,
+        out: *mut i16,
+        out_len: usize,
+        after: *mut u32,
+    ) -> u32;
     pub fn svx_decode_body(
         body: *const u8,
         body_len: usize,

@@ -157,6 +157,38 @@ pub fn note_fill(note: Note, sheet: &[u8], left: &[i8], right: &[i8], out: &mut 
     Ok((filled.note, filled.sounding))
 }
 
+/// Fills a buffer with the mixed frames of a score from a place on; the place after them.
+pub fn mix(
+    score: &[Entry],
+    rate: u32,
+    place: u32,
+    sheet: &[u8],
+    left: &[i8],
+    right: &[i8],
+    out: &mut [i16],
+) -> Result<u32, Refusal> {
+    let mut after = 0;
+    // SAFETY: as the module says; `score` and `out` are aligned for their elements and their lengths count them.
+    let refusal = unsafe {
+        svx_mix(
+            score.as_ptr(),
+            score.len(),
+            rate,
+            place,
+            sheet.as_ptr(),
+            sheet.len(),
+            left.as_ptr(),
+            left.len(),
+            right.as_ptr(),
+            right.len(),
+            out.as_mut_ptr(),
+            out.len(),
+            &mut after,
+        )
+    };
+    Refusal::judge(refusal).map(|()| after)
+}
+
 /// A BODY as interleaved bytes; how many there are.
 pub fn decode_body(body: &[u8], compression: u8, channels: u16, frames: u64, out: &mut [u8]) -> Result<usize, Refusal> {
     let mut length = 0;

@@ -5,6 +5,7 @@
 //!
 //! - [`parse_voice`] and [`encode_voice`] turn a file into a [`Voice`] and back.
 //! - A [`Sheet`] is a voice as it is played. A [`Note`] plays it, block by block.
+//! - [`mix`](mix()) plays a score of up to 16 timed notes, each an [`Entry`], on one voice.
 //! - [`Sheet::octave_wave`] writes an octave of a voice as a RIFF WAVE file.
 //! - [`ChannelSamples::nearest_crossing`] finds the quiet spot beside the end of a loop.
 //! - [`peak`] finds the loudest sample, the first where several are as loud.
@@ -75,14 +76,17 @@ mod codec;
 #[allow(unsafe_code)]
 mod ffi;
 mod header;
+mod mix;
 mod note;
 mod refusal;
 mod sheet;
 mod small_chunks;
 mod voice;
 
+pub use c::Entry;
 pub use codec::{decode_body, fibonacci_decode_channel, fibonacci_encode_channel, nearest_crossing, peak};
 pub use header::{VoiceHeader, UNITY_VOLUME};
+pub use mix::mix;
 pub use note::Note;
 pub use refusal::Refusal;
 pub use sheet::{Records, Sheet};

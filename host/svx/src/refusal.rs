@@ -6,7 +6,8 @@ use std::fmt;
 ///
 /// A refused call changes nothing: no buffer is written, and a note stays as it was. 1 to 14 turn back a file that is
 /// read, 10, 13 and 15 to 19 a voice that is written, these and 31 and 41 an octave that is written as a WAVE file, 10,
-/// 13, 18, 21 to 25, 31 to 34 and 44 a fill, and 31 and 43 a search for a crossing.
+/// 13, 18, 21 to 25, 31 to 34 and 44 a fill, all of these but 34 and also 45 to 47 a mix, and 31 and 43 a search for a
+/// crossing.
 ///
 /// ```
 /// let refusal = svx::parse_voice(b"FORM").unwrap_err();
@@ -52,6 +53,9 @@ fn words_of(number: u32) -> Option<&'static str> {
         41 => "the voice's rate is 0",
         43 => "there is no crossing within reach",
         44 => "the velocity is 0 or above 127",
+        45 => "an entry of the score starts before the entry before it",
+        46 => "the score has more than 16 entries",
+        47 => "an entry's key-up frame is before its start frame",
         // } refusals.txt
         _ => return None,
     })

@@ -1,7 +1,9 @@
 //! Random and damaged inputs: nothing panics, and each call is turned back only by numbers of its own.
 mod common;
 use common::{chan, chunk, envelope, form, full_voice, header, texts, vhdr, Xorshift, EXAMPLE};
-use svx::{ChannelAssignment, ChannelSamples, Fade, Note, Pan, Refusal, Seqn, SeqnSegment, Sheet, Voice, VoiceHeader};
+use svx::{
+    ChannelAssignment, ChannelSamples, Entry, Fade, Note, Pan, Refusal, Seqn, SeqnSegment, Sheet, Voice, VoiceHeader,
+};
 
 const INPUTS: usize = 20_000;
 
@@ -56,6 +58,28 @@ fn any_note(r: &mut Xorshift) -> Note {
     }
 }
 
+/// A score that may be good.
+fn any_score(r: &mut Xorshift) -> Vec<Entry> {
+    let (mut score, mut start) = (Vec::new(), 0);
+    let most = if r.one_in(8) { 19 } else { 4 };
+    for _ in 0..r.below(most) {
+        let note = any_note(r);
+        let after = |r: &mut Xorshift, frame: u32| match r.one_in(8) {
+            true => r.odd_u32(),
+            false => frame.saturating_add(r.u32() % 9),
+        };
+        start = after(r, start);
+        score.push(Entry {
+            start,
+            key_up: after(r, start),
+            step: note.step,
+            octave: note.octave,
+            velocity: note.velocity,
+        });
+    }
+    score
+}
+
 fn judge<T>(answer: Result<T, Refusal>, allowed: &[u32]) -> Option<T> {
     answer
         .map_err(|refusal| assert!(allowed.contains(&refusal.number()), "{refusal}"))
@@ -77,6 +101,16 @@ fn use_wave(sheet: &Sheet, voice: &Voice, k: u8) {
                 .map(|b| b.wrapping_sub(128) as i8)
                 .eq(channel.octaves[place].iter().copied()));
         }
+    }
+}
+
+/// A mix gives the place after it, or is turned back and writes nothing.
+fn use_score(r: &mut Xorshift, sheet: &Sheet) {
+    let (score, rate, place, mut out) = (any_score(r), any_note(r).rate, r.odd_u32(), vec![77; r.below(40)]);
+    let mixes: Vec<u32> = (21..=25).chain(31..=33).chain(44..=47).collect();
+    match judge(svx::mix(&score, rate, place, sheet, &mut out), &mixes) {
+        Some(after) => assert_eq!(after, place.saturating_add(out.len() as u32 / 2)),
+        None => assert!(out.iter().all(|&v| v == 77)),
     }
 }
 
@@ -111,6 +145,7 @@ fn use_sheet(r: &mut Xorshift, sheet: &Sheet) {
         }
         None => assert!(out.iter().all(|&v| v == 77)),
     }
+    use_score(r, sheet);
 }
 
 #[test]

@@ -1,7 +1,7 @@
 //! Notes: refusals of fills, blocks, key-ups.
 mod common;
-use common::{envelope, full_voice, header, mono, play, sequenced, EXAMPLE};
-use svx::{ChannelAssignment, ChannelSamples, Note, Pan, Seqn, SeqnSegment, Sheet, Voice, VoiceHeader};
+use common::{full_voice, header, long_sequence, mono, play, rich_voice, sequenced, EXAMPLE};
+use svx::{ChannelAssignment, ChannelSamples, Note, Pan, Sheet, Voice};
 
 /// A note that nothing turns back on a voice of one octave.
 const GOOD: Note = Note {
@@ -58,13 +58,7 @@ fn by_23_fade() {
 
 #[test]
 fn by_24_long_sequence() {
-    let voice = Voice {
-        seqn: Some(Seqn {
-            segments: vec![SeqnSegment { start: 0, end: 65_536 }; 512],
-        }),
-        ..mono(header(0, 65_536, 8, 0), (0..8).map(|k| vec![0; 65_536 << k]).collect())
-    };
-    let sheet = Sheet::of(&voice).unwrap();
+    let sheet = Sheet::of(&long_sequence()).unwrap();
     let by_octave = [6, 7, 8].map(|octave| refusal(Note { octave, ..GOOD }, &sheet, 2));
     assert_eq!(by_octave, [0, 24, 31]);
 }
@@ -127,21 +121,6 @@ fn in_order() {
     assert_eq!(refusal(note, &sheet, 0), 44);
     note.velocity = 127;
     assert_eq!(refusal(note, &sheet, 0), 0);
-}
-
-/// Two octaves with a loop, an attack and a release that lasts longer than a block.
-fn rich_voice() -> Voice {
-    let octave = |n: i32| (0..n).map(|i| (i * 37 % 251 - 125) as i8).collect::<Vec<i8>>();
-    Voice {
-        header: VoiceHeader {
-            volume: 60_000,
-            ..header(100, 300, 2, 0)
-        },
-        pan: Some(Pan { position: 20_000 }),
-        attack: vec![envelope(&[(50, 65_536)]), envelope(&[(100, 40_000)])],
-        release: vec![envelope(&[(0, 50_000), (150, 0)])],
-        ..mono(VoiceHeader::default(), vec![octave(400), octave(800)])
-    }
 }
 
 /// A note of 5,000 frames with a key-up at frame 2,345, struck so hard, in blocks of so many.

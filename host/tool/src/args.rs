@@ -124,8 +124,7 @@ impl Given {
     /// A whole number within bounds.
     pub fn number(&self, name: &str, bounds: RangeInclusive<u64>) -> Result<Option<u64>, Failure> {
         let Some(text) = self.value(name) else { return Ok(None) };
-        let digits = !text.is_empty() && text.bytes().all(|b| b.is_ascii_digit());
-        match text.parse().ok().filter(|n| digits && bounds.contains(n)) {
+        match whole(text).filter(|n| bounds.contains(n)) {
             Some(n) => Ok(Some(n)),
             None => {
                 let (low, high) = (grouped(*bounds.start()), grouped(*bounds.end()));
@@ -154,7 +153,14 @@ impl Given {
     }
 }
 
-fn billionths(text: &str) -> Option<u64> {
+/// A whole number in digits alone.
+pub fn whole(text: &str) -> Option<u64> {
+    let digits = text.bytes().all(|b| b.is_ascii_digit());
+    text.parse().ok().filter(|_| digits)
+}
+
+/// A decimal number in billionths.
+pub fn billionths(text: &str) -> Option<u64> {
     let (whole, part) = text.split_once('.').unwrap_or((text, ""));
     let digits = |s: &str| s.bytes().all(|b| b.is_ascii_digit());
     if whole.len() + part.len() == 0 || part.len() > 9 || !digits(whole) || !digits(part) {

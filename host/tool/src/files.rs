@@ -11,6 +11,9 @@ use svx::{Refusal, Sheet};
 /// The largest file that is read, 4 GiB: the lengths in it have 32 bits.
 const LARGEST: u64 = 1 << 32;
 
+/// The largest text that is read, 1 MiB: one that was written by hand is smaller.
+const LARGEST_TEXT: u64 = 1 << 20;
+
 /// A file that was read: its name for messages, and its bytes.
 pub struct Input {
     pub name: String,
@@ -22,24 +25,34 @@ pub struct Input {
 impl Input {
     /// Reads a whole file. Of one that isn't a FORM 8SVX only the beginning, which is what the library refuses.
     pub fn read(path: &OsStr) -> Result<Input, Failure> {
+        Input::read_within(path, (LARGEST, "4 GiB"), foreign)
+    }
+
+    /// Reads a whole text.
+    pub fn read_text(path: &OsStr) -> Result<Input, Failure> {
+        Input::read_within(path, (LARGEST_TEXT, "1 MiB"), |_| false)
+    }
+
+    /// Reads a whole file that isn't above a size; of one that 12 bytes are enough for only these.
+    fn read_within(path: &OsStr, (largest, size): (u64, &str), enough: fn(&[u8]) -> bool) -> Result<Input, Failure> {
         let name = shown(path);
         let wrong = |e: io::Error| Failure::wrong(&name, plain(&e));
-        let too_large = || Failure::wrong(&name, "is larger than 4 GiB; such files aren't read");
+        let too_large = || Failure::wrong(&name, format!("is larger than {size}; such files aren't read"));
         let file = File::open(path).map_err(wrong)?;
         let about = file.metadata().map_err(wrong)?;
         if about.is_dir() {
             return Err(Failure::wrong(&name, "is a directory"));
         }
-        if about.len() > LARGEST {
+        if about.len() > largest {
             return Err(too_large());
         }
         let mut bytes = Vec::new();
         (&file).take(12).read_to_end(&mut bytes).map_err(wrong)?;
-        if !foreign(&bytes) {
+        if !enough(&bytes) {
             // What isn't an ordinary file has no length beforehand.
-            (&file).take(LARGEST - 11).read_to_end(&mut bytes).map_err(wrong)?;
+            (&file).take(largest - 11).read_to_end(&mut bytes).map_err(wrong)?;
         }
-        if bytes.len() as u64 > LARGEST {
+        if bytes.len() as u64 > largest {
             return Err(too_large());
         }
         Ok(Input {

@@ -15,18 +15,23 @@ pub struct Made<'a>(Vec<Hidden<'a>>);
 impl<'a> Made<'a> {
     /// Writes a whole file for a place; to a device or a pipe at once.
     pub fn write(&mut self, place: &'a Place, bytes: &[u8]) -> Result<(), Failure> {
-        let done = match place.holds {
-            Holds::Device => {
-                let device = File::options().write(true).open(&place.path);
-                device.and_then(|mut device| device.write_all(bytes))
-            }
-            _ => Hidden::begin(place).and_then(|(hidden, file)| {
-                // Kept first, so that it is removed if it can't be completed.
+        let mut file = self.begin(place)?;
+        file.write(bytes)?;
+        file.complete()
+    }
+
+    /// Begins a file for a place, to be written part by part; what goes to a device or a pipe is there at once.
+    pub fn begin(&mut self, place: &'a Place) -> Result<Begun<'a>, Failure> {
+        let file = match place.holds {
+            Holds::Device => File::options().write(true).open(&place.path),
+            _ => Hidden::begin(place).map(|(hidden, file)| {
+                // Kept from the beginning, so that it is removed if it can't be completed.
                 self.0.push(hidden);
-                complete(file, place, bytes)
+                file
             }),
         };
-        done.map_err(|e| Failure::writing(&place.name, &e))
+        let file = file.map_err(|e| Failure::writing(&place.name, &e))?;
+        Ok(Begun { place, file })
     }
 
     /// Puts all files in their places, or none.
@@ -42,16 +47,35 @@ impl<'a> Made<'a> {
     }
 }
 
-/// Writes a file that is to come to a place, whole.
-fn complete(mut file: File, place: &Place, bytes: &[u8]) -> io::Result<()> {
-    file.write_all(bytes)?;
-    if let Holds::File(mode) = place.holds {
-        if file.metadata()?.mode() & 0o777 != mode {
-            file.set_permissions(Permissions::from_mode(mode))?;
-        }
+/// A file that is being written for a place.
+pub struct Begun<'a> {
+    place: &'a Place,
+    file: File,
+}
+
+impl Begun<'_> {
+    pub fn write(&mut self, bytes: &[u8]) -> Result<(), Failure> {
+        let done = self.file.write_all(bytes);
+        done.map_err(|e| Failure::writing(&self.place.name, &e))
     }
-    // Some systems tell only now that there was no room.
-    file.sync_all()
+
+    /// Ends the writing. Some systems tell only at the sync that there was no room; a device has none.
+    pub fn complete(self) -> Result<(), Failure> {
+        let done = match self.place.holds {
+            Holds::Device => Ok(()),
+            Holds::File(mode) => permit(&self.file, mode).and_then(|()| self.file.sync_all()),
+            Holds::Nothing => self.file.sync_all(),
+        };
+        done.map_err(|e| Failure::writing(&self.place.name, &e))
+    }
+}
+
+/// Gives a file the permissions of the one that it replaces.
+fn permit(file: &File, mode: u32) -> io::Result<()> {
+    if file.metadata()?.mode() & 0o777 != mode {
+        file.set_permissions(Permissions::from_mode(mode))?;
+    }
+    Ok(())
 }
 
 /// A file under a hidden name, on the way to its place.
@@ -221,7 +245,7 @@ mod tests {
         fn places(&self, names: &[&str], force: bool) -> Vec<Place> {
             let input = Input::read(self.path("in").as_os_str()).ok().expect("an input");
             let paths: Vec<PathBuf> = names.iter().map(|name| self.path(name)).collect();
-            place::look(&paths, &input, force).ok().expect("places")
+            place::look(&paths, &[&input], force).ok().expect("places")
         }
 
         /// Each file with what is in it, hidden ones too, but for the input.

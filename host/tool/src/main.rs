@@ -10,11 +10,14 @@ mod failure;
 mod files;
 mod info;
 mod made;
+mod mix;
 mod notes;
 mod null;
 mod panel;
 mod place;
+mod score;
 mod stem;
+mod stereo;
 mod svg;
 mod wave;
 mod words;
@@ -25,10 +28,11 @@ use std::ffi::OsString;
 use std::io::Write;
 use std::process::ExitCode;
 
-const COMMANDS: [&Command; 9] = [
+const COMMANDS: [&Command; 10] = [
     &info::INFO,
     &check::CHECK,
     &stem::STEM,
+    &mix::MIX,
     &null::NULL,
     &wave::WAVE,
     &convert::RAW,
@@ -92,8 +96,8 @@ fn overview() -> String {
         words += &format!("  {:<10}{}\n", command.name, command.does);
     }
     words += "\nsvx COMMAND --help tells more of a command. The status is 0; 1 where a file, a\n";
-    words += "note, an octave or a search is refused; 2 for wrong usage or a file that can't be\n";
-    words + "read or written.\n"
+    words += "note, a score, an octave or a search is refused; 2 for wrong usage or a file that\n";
+    words + "can't be read or written.\n"
 }
 
 /// The help of a command.

@@ -31,10 +31,7 @@ pub const HELP: &str = "\
   --key-up FRAME       the frame at which the key is let go
   --key-up-seconds S   in place of --key-up: the same in seconds";
 
-const LARGEST_32: u64 = u32::MAX as u64;
-
-/// The most frames that a WAV file holds: its length has 32 bits, a frame has 4 bytes, and 36 go to the header.
-pub const LONGEST: u64 = (LARGEST_32 - 36) / 4;
+pub const LARGEST_32: u64 = u32::MAX as u64;
 
 /// What the options ask for. Lengths and key-up are there only if given.
 pub struct Asked {
@@ -81,27 +78,27 @@ impl Asked {
     pub fn judge(&self, sheet: &Sheet) -> Result<(), Refusal> {
         self.note.fill(sheet, &mut []).map(|_| ())
     }
+}
 
-    /// The frame from which the note is over. Over once, it stays over, so a search by halves finds it; the library
-    /// answers for each frame that it looks at.
-    pub fn end(&self, sheet: &Sheet) -> Result<u32, Refusal> {
-        let (mut low, mut high) = (0, u32::MAX);
-        while low < high {
-            let frame = low + (high - low) / 2;
-            let at = Note {
-                frames: frame,
-                key_up: self.key_up.filter(|&u| u <= frame),
-                ..self.note
-            };
-            let (_, sounding) = at.fill(sheet, &mut [0; 2])?;
-            if sounding > 0 {
-                low = frame + 1;
-            } else {
-                high = frame;
-            }
+/// The frame from which a note is over that is let go at a frame. Over once, it stays over, so a search by halves finds it;
+/// the library answers for each frame that it looks at.
+pub fn end(note: Note, key_up: Option<u32>, sheet: &Sheet) -> Result<u32, Refusal> {
+    let (mut low, mut high) = (0, u32::MAX);
+    while low < high {
+        let frame = low + (high - low) / 2;
+        let at = Note {
+            frames: frame,
+            key_up: key_up.filter(|&u| u <= frame),
+            ..note
+        };
+        let (_, sounding) = at.fill(sheet, &mut [0; 2])?;
+        if sounding > 0 {
+            low = frame + 1;
+        } else {
+            high = frame;
         }
-        Ok(low)
     }
+    Ok(low)
 }
 
 const BILLION: u64 = 1_000_000_000;
@@ -116,7 +113,7 @@ fn step(billionths: u64, rate: u64) -> u64 {
 }
 
 /// The whole frames in so many billionths of a second.
-fn frames(billionths: u64, rate: u64) -> u64 {
+pub fn frames(billionths: u64, rate: u64) -> u64 {
     u64::try_from(u128::from(billionths) * u128::from(rate) / u128::from(BILLION)).unwrap_or(u64::MAX)
 }
 

@@ -2,7 +2,8 @@
 use crate::args::{Command, Given};
 use crate::failure::Failure;
 use crate::files::{say, Input};
-use crate::notes::{self, Asked, Blocks, LONGEST};
+use crate::notes::{self, Asked, Blocks};
+use crate::stereo::LONGEST;
 use crate::words::{counted, grouped};
 use svx::{Note, Refusal, Sheet};
 

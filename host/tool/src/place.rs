@@ -35,12 +35,12 @@ pub enum Holds {
     Device,
 }
 
-/// Looks at all places: at none is a folder or the input, nor anything else unless it may be replaced, and no two lead
+/// Looks at all places: at none is a folder or an input, nor anything else unless it may be replaced, and no two lead
 /// to one file.
-pub fn look(paths: &[PathBuf], input: &Input, force: bool) -> Result<Vec<Place>, Failure> {
+pub fn look(paths: &[PathBuf], inputs: &[&Input], force: bool) -> Result<Vec<Place>, Failure> {
     let mut places: Vec<Place> = Vec::new();
     for path in paths {
-        let place = Place::look(path, input, force)?;
+        let place = Place::look(path, inputs, force)?;
         if let Some(other) = places.iter().find(|other| place.is(other)) {
             let words = format!("leads to the same file as {}", other.name);
             return Err(Failure::wrong(&place.name, words));
@@ -51,7 +51,7 @@ pub fn look(paths: &[PathBuf], input: &Input, force: bool) -> Result<Vec<Place>,
 }
 
 impl Place {
-    fn look(path: &Path, input: &Input, force: bool) -> Result<Place, Failure> {
+    pub fn look(path: &Path, inputs: &[&Input], force: bool) -> Result<Place, Failure> {
         let name = shown(path.as_os_str());
         let wrong = |e: io::Error| Failure::wrong(&name, plain(&e));
         // A link that leads nowhere takes its name too.
@@ -61,7 +61,7 @@ impl Place {
             if about.is_dir() {
                 return Err(Failure::wrong(&name, "is a directory"));
             }
-            input.spare(&name, about)?;
+            inputs.iter().try_for_each(|input| input.spare(&name, about))?;
         }
         if taken && !force {
             return Err(Failure::wrong(&name, TAKEN));

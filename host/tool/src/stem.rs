@@ -2,10 +2,8 @@
 use crate::args::{Command, Given};
 use crate::failure::Failure;
 use crate::files::{Input, Output};
-use crate::notes::{self, Asked, Blocks, LONGEST};
-use crate::words::{counted, grouped, lasting};
-use std::io::{self, IsTerminal, Write};
-use std::time::{Duration, Instant};
+use crate::notes::{self, Asked, Blocks};
+use crate::stereo::{self, Wav};
 use svx::Sheet;
 
 pub const STEM: Command = Command {
@@ -41,13 +39,10 @@ fn stem(given: &Given) -> Result<u8, Failure> {
     let frames = match asked.frames {
         Some(frames) => frames,
         None if held_loop => LOOP_SECONDS * u64::from(asked.note.rate),
-        None => u64::from(asked.end(&sheet).map_err(|refusal| input.refused(refusal))?),
+        None => u64::from(notes::end(asked.note, asked.key_up, &sheet).map_err(|refusal| input.refused(refusal))?),
     };
     drop(voice);
-    if frames > LONGEST {
-        let words = "are more than the 4 GiB of a WAV file hold; by --frames or --seconds ask for at most";
-        return Err(given.wrong(&format!("{} frames {words} {}", grouped(frames), grouped(LONGEST))));
-    }
+    stereo::judge_length(given, frames, "--frames or --seconds")?;
     write(given, &input, &sheet, &asked, frames)?;
     Ok(0)
 }
@@ -56,84 +51,10 @@ fn stem(given: &Given) -> Result<u8, Failure> {
 fn write(given: &Given, input: &Input, sheet: &Sheet, asked: &Asked, frames: u64) -> Result<(), Failure> {
     let mut blocks = Blocks::new(sheet, asked.note, frames, asked.key_up, asked.block.unwrap_or(4_096));
     let mut out = Output::create(given.file(1), input)?;
-    let mut progress = Progress::of(frames);
-    let mut bytes = Vec::new();
-    out.write(&wav_header(asked.note.rate, frames as u32))?;
+    let mut wav = Wav::begin(asked.note.rate, frames, |bytes| out.write(bytes))?;
     while let Some((values, _)) = blocks.next().map_err(|refusal| input.refused(refusal))? {
-        bytes.clear();
-        bytes.extend(values.iter().flat_map(|value| value.to_le_bytes()));
-        out.write(&bytes)?;
-        progress.add(values.len() as u64 / 2);
+        wav.add(values)?;
     }
-    progress.clear();
-    let lasts = lasting(frames, asked.note.rate).unwrap_or_default();
-    out.finish(&format!(
-        "{} at {} Hz, {lasts}",
-        counted(frames, "frame"),
-        grouped(u64::from(asked.note.rate))
-    ))
-}
-
-/// The 44 bytes in front of 16-bit stereo frames. Its caller keeps frames within LONGEST and rate within 192,000.
-fn wav_header(rate: u32, frames: u32) -> Vec<u8> {
-    let data = frames * 4;
-    let mut header = Vec::with_capacity(44);
-    header.extend(b"RIFF");
-    header.extend((36 + data).to_le_bytes());
-    header.extend(b"WAVEfmt ");
-    header.extend(16u32.to_le_bytes());
-    header.extend(1u16.to_le_bytes()); // PCM
-    header.extend(2u16.to_le_bytes()); // channels
-    header.extend(rate.to_le_bytes());
-    header.extend((rate * 4).to_le_bytes());
-    header.extend(4u16.to_le_bytes()); // bytes a frame
-    header.extend(16u16.to_le_bytes()); // bits a value
-    header.extend(b"data");
-    header.extend(data.to_le_bytes());
-    header
-}
-
-/// A line on a terminal that tells how far a long writing has come.
-struct Progress {
-    frames: u64,
-    done: u64,
-    next: Instant,
-    shown: bool,
-    terminal: bool,
-}
-
-impl Progress {
-    fn of(frames: u64) -> Progress {
-        let next = Instant::now() + Duration::from_secs(1);
-        Progress {
-            frames,
-            done: 0,
-            next,
-            shown: false,
-            terminal: io::stderr().is_terminal(),
-        }
-    }
-
-    fn add(&mut self, frames: u64) {
-        self.done += frames;
-        if !self.terminal || Instant::now() < self.next {
-            return;
-        }
-        self.next = Instant::now() + Duration::from_millis(200);
-        self.shown = true;
-        let share = self.done * 100 / self.frames.max(1);
-        // A terminal that doesn't take the line is no reason to stop.
-        let _ = write!(
-            io::stderr(),
-            "\rsvx: {share}%, {} of {} frames",
-            grouped(self.done),
-            grouped(self.frames)
-        );
-    }
-
-    fn clear(&self) {
-        if self.shown {
-            let _ = write!(io::stderr(), "\r{:60}\r", "");
-        }
-    }
+    wav.end();
+    out.finish(&stereo::facts(frames, asked.note.rate))
 }

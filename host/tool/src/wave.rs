@@ -94,7 +94,7 @@ fn numbered(out: &OsStr, octave: u8) -> PathBuf {
 
 /// Writes the octaves to their files and tells of each.
 fn write(input: &Input, sheet: &Sheet, octaves: &[u8], paths: &[PathBuf], force: bool) -> Result<(), Failure> {
-    let places = place::look(paths, input, force)?;
+    let places = place::look(paths, &[input], force)?;
     let (mut made, mut words) = (Made::default(), String::new());
     for (octave, place) in octaves.iter().zip(&places) {
         // One at a time, since all together may be too much for the memory.

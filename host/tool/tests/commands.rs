@@ -8,7 +8,8 @@ use std::path::{Path, PathBuf};
 use std::process::Command;
 use std::time::Duration;
 use svx::{
-    ChannelAssignment, ChannelSamples, EgPoint, Envelope, Note, Pan, Seqn, SeqnSegment, Sheet, Voice, VoiceHeader,
+    ChannelAssignment, ChannelSamples, EgPoint, Entry, Envelope, Note, Pan, Seqn, SeqnSegment, Sheet, Voice,
+    VoiceHeader,
 };
 
 /// A whole file: one sample, -2, played once, at 8,000 samples a second.
@@ -17,8 +18,8 @@ const EXAMPLE: [u8; 50] = [
     0, 0, 0, 0, 0, 0, 0, 0, 0x1F, 0x40, 1, 0, 0, 1, 0, 0, 0x42, 0x4F, 0x44, 0x59, 0, 0, 0, 1, 0xFE, 0,
 ];
 
-const COMMANDS: [&str; 9] = [
-    "info", "check", "stem", "null", "wave", "raw", "rewrite", "crossing", "draw",
+const COMMANDS: [&str; 10] = [
+    "info", "check", "stem", "mix", "null", "wave", "raw", "rewrite", "crossing", "draw",
 ];
 
 /// What a run of the tool gave.
@@ -286,6 +287,10 @@ fn wrong_usage_is_2() {
     run(&[&"stem", &file, &out, &"--key-up=1", &"--key-up-seconds=2"]).fails(2, "exclude each other");
     run(&[&"stem", &file, &out, &"--block", &"0"]).fails(2, "from 1 to 1,048,576");
     run(&[&"stem", &file, &out, &"--seconds", &"1e3"]).fails(2, "--seconds takes a number");
+    run(&[&"mix", &file, &out]).fails(2, "usage: svx mix FILE SCORE OUT.wav");
+    run(&[&"mix", &file, &file, &out, &"--rate=fast"]).fails(2, "--rate takes a whole number");
+    run(&[&"mix", &file, &file, &out, &"--seconds=-1"]).fails(2, "--seconds takes a number");
+    run(&[&"mix", &file, &file, &out, &"--force=1"]).fails(2, "takes no value");
     run(&[&"rewrite", &file, &out, &"--raw=1"]).fails(2, "takes no value");
     run(&[&"rewrite", &file, &out, &"--raw", &"--fibonacci"]).fails(2, "exclude each other");
     run(&[&"wave", &file, &out, &"--octave=0", &"--all"]).fails(2, "exclude each other");
@@ -319,6 +324,7 @@ fn bad_input_is_told_in_one_line() {
         run(&[&"null", &path]).fails(status, words);
         run(&[&"crossing", &path, &"--octave=0", &"--place=0"]).fails(status, words);
         run(&[&"wave", &path, &out, &"--all"]).fails(status, words);
+        run(&[&"mix", &path, &path, &out]).fails(status, words);
         for command in ["stem", "wave", "raw", "rewrite", "draw"] {
             run(&[&command, &path, &out]).fails(status, words);
             assert!(!out.exists(), "{command} left a file behind");
@@ -590,6 +596,313 @@ fn a_refused_note_leaves_no_file() {
     let mut voice = looped();
     voice.header.samples_per_sec = 0;
     run(&[&"stem", &folder.voice("no-rate.8svx", &voice), &out]).fails(2, "names no rate");
+}
+
+/// Writes a score and runs `mix` on it, with the file out.wav and options.
+fn run_mix(folder: &Folder, voice: &Path, score: &str, options: &[&str]) -> Ran {
+    let (score, out) = (folder.file("score", score.as_bytes()), folder.path("out.wav"));
+    let mut arguments: Vec<&dyn AsRef<OsStr>> = vec![&"mix", &voice, &score, &out];
+    options.iter().for_each(|option| arguments.push(option));
+    run(&arguments)
+}
+
+/// The same, and takes its file apart.
+fn mix(folder: &Folder, voice: &Path, score: &str, options: &[&str]) -> (u32, Vec<i16>) {
+    run_mix(folder, voice, score, &[options, &["--force"]].concat()).well();
+    wav(&folder.read("out.wav"))
+}
+
+/// The values of a mix, made here.
+fn mixed(voice: &Voice, score: &[Entry], rate: u32, frames: usize) -> Vec<i16> {
+    let mut values = vec![0; 2 * frames];
+    let sheet = Sheet::of(voice).expect("a sheet");
+    svx::mix(score, rate, 0, &sheet, &mut values).expect("a mix");
+    values
+}
+
+fn entry(start: u32, key_up: u32, octave: u8, step: u32, velocity: u8) -> Entry {
+    Entry {
+        start,
+        key_up,
+        step,
+        octave,
+        velocity,
+    }
+}
+
+#[test]
+fn mix_writes_what_the_library_mixes() {
+    let folder = Folder::new("mix");
+    let voice = looped();
+    let path = folder.voice("looped.8svx", &voice);
+    let score = "# comment 1 2 3\r\n\n  0 4000\t1  50000 127 # more\n100 3000 0 F#3 90\r\n#\n100 0.5s 1 A4 1#\n";
+    run_mix(&folder, &path, score, &[]).fails(2, "score line 6: VELOCITY takes a whole number from 0 to 255");
+    let score = score.replace("1#", "1 #");
+    // F#3 has 184.997 Hz: × 4 samples × 65,536 / 8,000 is 6,061.99. A4 in octave 1 is 440 × 8 × 65,536 / 8,000.
+    let entries = [
+        entry(0, 4_000, 1, 50_000, 127),
+        entry(100, 3_000, 0, 6_062, 90),
+        entry(100, 4_000, 1, 28_836, 1),
+    ];
+    // The first is over last, 30 ms after its key-up.
+    let expected = mixed(&voice, &entries, 8_000, 4_240);
+    assert!(expected[2 * 4_239..].iter().any(|&v| v != 0) || expected[2 * 4_200..].iter().any(|&v| v != 0));
+    let ran = run_mix(&folder, &path, &score, &["--rate=8000"]).well();
+    let out = folder.path("out.wav");
+    assert_eq!(
+        ran.out,
+        format!("{}: 4,240 frames at 8,000 Hz, 530 ms\n", out.display())
+    );
+    assert_eq!(wav(&folder.read("out.wav")), (8_000, expected.clone()));
+    let ran = run(&[&"mix", &path, &folder.path("score"), &"-", &"--rate=8000"]).well();
+    assert_eq!(ran.bytes, folder.read("out.wav"));
+    // Longer than a block, and shorter than the mix.
+    for (seconds, frames) in [
+        ("--seconds=0.7", 5_600),
+        ("--seconds=0.5201", 4_160),
+        ("--seconds=0", 0),
+    ] {
+        let (_, values) = mix(&folder, &path, &score, &["--rate=8000", seconds]);
+        assert_eq!(values, mixed(&voice, &entries, 8_000, frames), "{seconds}");
+    }
+    assert_eq!(folder.names(), "looped.8svx out.wav score");
+}
+
+#[test]
+fn mix_ends_when_nothing_sounds() {
+    let folder = Folder::new("mix-end");
+    let path = folder.voice("looped.8svx", &looped());
+    let example = folder.file("example.8svx", &EXAMPLE);
+    let frames = |voice: &Path, score: &str, options: &[&str]| mix(&folder, voice, score, options).1.len() / 2;
+    // A release of 30 ms, from the last key-up on, wherever it stands.
+    assert_eq!(frames(&path, "0 1000 0 65536 127", &["--rate=1000"]), 1_030);
+    assert_eq!(
+        frames(
+            &path,
+            "500 1000 0 65536 127\n500 600 0 65536 127\n501 501 1 1 1",
+            &["--rate=1000"]
+        ),
+        1_030
+    );
+    // One sample at half a sample a frame lasts two frames, held or not.
+    assert_eq!(frames(&example, "3 4294967295 0 32768 127", &[]), 5);
+    assert_eq!(mix(&folder, &example, "3 9 0 32768 127", &[]).1[6..], [-512; 4]);
+    // Let go at its start and without a release a note never sounds, and the mix doesn't wait for it.
+    assert_eq!(frames(&example, "0 1 0 32768 127\n5000 5000 0 32768 127", &[]), 1);
+    assert_eq!(frames(&example, "7 7 0 32768 127", &[]), 0);
+    assert_eq!(frames(&example, "0 1 0 1 127\n4294967295 4294967295 0 1 127", &[]), 1);
+    // The default rate is a stem's.
+    assert_eq!(mix(&folder, &example, "0s 1s 0 65536 127", &[]).0, 44_100);
+}
+
+#[test]
+fn mix_sums_before_it_holds() {
+    let folder = Folder::new("mix-sums");
+    let path = folder.voice("stereo.8svx", &stereo());
+    // Left 1, -2, 3 and right -128, 127, 0, and once more a frame later.
+    let score = "0 9 0 65536 127\n0 9 0 65536 127\n1 9 0 65536 127";
+    assert_eq!(
+        mix(&folder, &path, score, &[]).1,
+        [512, -32_768, -768, 32_256, 1_024, 32_512, 768, 0]
+    );
+}
+
+#[test]
+fn notes_have_names() {
+    let folder = Folder::new("mix-notes");
+    let mut voice = looped();
+    let path = folder.voice("looped.8svx", &voice);
+    // 4 samples a cycle in octave 0 and 8 in octave 1.
+    for (note, octave, step) in [
+        ("A4", 0, 2_615),
+        ("A-4", 1, 5_231),
+        ("C4", 1, 3_110),
+        ("c-5", 0, 3_110),
+        ("Bb2", 0, 693),
+        ("A#2", 0, 693),
+        ("F#3", 0, 1_100),
+        ("Gb3", 0, 1_100),
+        ("C0", 0, 97),
+        ("B9", 1, 187_891),
+    ] {
+        let by_note = mix(&folder, &path, &format!("0 2000 {octave} {note} 127"), &[]);
+        let by_step = mix(&folder, &path, &format!("0 2000 {octave} {step} 127"), &[]);
+        assert!(by_note == by_step, "{note}");
+    }
+    voice.header.samples_per_hi_cycle = 0;
+    let unknown = folder.voice("unknown.8svx", &voice);
+    mix(&folder, &unknown, "0 100 0 65536 127", &[]);
+    run_mix(&folder, &unknown, "\n0 100 0 C4 127", &["--force"])
+        .fails(2, "score line 2: C4 can't be reckoned, since the voice doesn't tell");
+    voice.header.samples_per_hi_cycle = 4_000_000_000;
+    let low = folder.voice("low.8svx", &voice);
+    run_mix(&folder, &low, "0 100 1 C4 127", &["--force"]).fails(
+        2,
+        "score line 1: C4 from octave 1 needs a step above 16,777,216 at 44,100 frames",
+    );
+    run_mix(&folder, &path, "0 100 0 C0 127", &["--force", "--rate=192000000"]).fails(2, "needs a step below 1 at");
+}
+
+#[test]
+fn an_unreadable_line_is_told() {
+    let folder = Folder::new("mix-lines");
+    let path = folder.voice("looped.8svx", &looped());
+    let good = "0 100 0 65536 127";
+    for (line, told) in [
+        (
+            "0 100 0 65536",
+            "4 words, not the five START KEY-UP OCTAVE STEP VELOCITY",
+        ),
+        ("0 100 0 65536 127 1", "6 words, not the five"),
+        ("0", "1 word, not the five"),
+        (
+            "-1 100 0 65536 127",
+            "START takes a frame from 0 to 4,294,967,295, without commas, or",
+        ),
+        ("0 4294967296 0 65536 127", "KEY-UP takes a frame"),
+        ("0 97392s 0 65536 127", "KEY-UP takes a frame"),
+        ("0 1,000 0 65536 127", "KEY-UP takes a frame"),
+        ("0 1e3s 0 65536 127", "KEY-UP takes a frame"),
+        ("0 s 0 65536 127", "KEY-UP takes a frame"),
+        ("0 100 256 65536 127", "OCTAVE takes a whole number from 0 to 255"),
+        ("0 100 0 4294967296 127", "STEP takes a whole number"),
+        (
+            "0 100 0 H4 127",
+            "STEP takes a whole number from 0 to 4,294,967,295, without commas, or a note such as",
+        ),
+        ("0 100 0 C\u{7}4 127", "STEP takes"),
+        ("0 100 0 65536 loud", "VELOCITY takes a whole number from 0 to 255"),
+        ("0 100 0 65536 +9", "VELOCITY takes"),
+    ] {
+        let score = format!("# a score\n\n{good}\n{line}\n{good}\n");
+        run_mix(&folder, &path, &score, &[]).fails(2, &format!("score line 4: {told}"));
+    }
+    assert_eq!(folder.names(), "looped.8svx score");
+    for empty in ["", "\n\n", "# 0 100 0 65536 127\n"] {
+        run_mix(&folder, &path, empty, &[]).fails(2, "score: there is no note in it");
+    }
+    // What isn't UTF-8 may be in a comment.
+    let bytes = [&b"\xEF\xBB\xBF# K\xFCnstler\n0 100 0 65536 12"[..], &b"\xB2"[..]].concat();
+    let latin = folder.file("latin", &bytes);
+    run(&[&"mix", &path, &latin, &folder.path("out.wav")]).fails(2, "latin line 2: VELOCITY takes");
+    folder.file("latin", &bytes[..bytes.len() - 1]);
+    run(&[&"mix", &path, &latin, &folder.path("out.wav")]).well();
+}
+
+#[test]
+fn a_score_that_cannot_be_read_is_told() {
+    let folder = Folder::new("mix-unread");
+    let (path, out) = (folder.voice("v", &looped()), folder.path("out.wav"));
+    run(&[&"mix", &path, &folder.path("missing"), &out]).fails(2, "missing: no such file or directory");
+    run(&[&"mix", &path, &folder.0, &out]).fails(2, "is a directory");
+    run(&[&"mix", &path, &"/dev/zero", &out]).fails(2, "/dev/zero: is larger than 1 MiB");
+    run(&[&"mix", &path, &"/dev/null", &out]).fails(2, "/dev/null: there is no note in it");
+    // The two in the wrong order.
+    let score = folder.file("score", b"0 100 0 65536 127");
+    run(&[&"mix", &score, &path, &out]).fails(1, "score: refused by 2: ");
+    run(&[&"mix", &path, &path, &out]).fails(2, "v line 1: ");
+    assert_eq!(folder.names(), "score v");
+}
+
+#[test]
+fn a_refused_score_names_its_line() {
+    let folder = Folder::new("mix-refused");
+    let path = folder.voice("looped.8svx", &looped());
+    folder.old_files(&["out.wav"]);
+    let good = "10 100 0 65536 127";
+    for (line, number) in [
+        ("9 100 0 65536 127", 45),
+        ("9 8 0 65536 127", 45),
+        ("10 9 0 65536 127", 47),
+        ("10 100 2 65536 127", 31),
+        ("10 100 0 0 127", 32),
+        ("10 100 0 16777217 127", 32),
+        ("10 100 0 65536 0", 44),
+        ("10 100 0 65536 128", 44),
+    ] {
+        // A line before it that is good, and one behind it that the same and other rules turn back.
+        let score = format!("{good}\n# here\n{good}\n{line}\n{line}\n11 100 9 0 0\n");
+        let words = format!("score line 4: refused by {number}: ");
+        run_mix(&folder, &path, &score, &[]).fails(1, &words);
+        run_mix(&folder, &path, &score, &["--force", "--seconds=1"]).fails(1, &words);
+    }
+    // 45 and 47 come before the rest, wherever they are.
+    let score = format!("{good}\n10 100 0 0 0\n{good}\n9 100 0 1 1\n");
+    run_mix(&folder, &path, &score, &[]).fails(1, "score line 4: refused by 45: ");
+    // What no entry is to blame for.
+    let seventeen = format!("{good}\n").repeat(17);
+    run_mix(&folder, &path, &seventeen, &[]).fails(1, "score: refused by 46: the score has more than 16 entries\n");
+    for rate in ["--rate=0", "--rate=192001", "--rate=4294967295"] {
+        run_mix(&folder, &path, good, &[rate]).fails(1, "looped.8svx: refused by 33: ");
+    }
+    run_mix(&folder, &path, "10 100 0 C4 127", &["--rate=0"]).fails(1, "looped.8svx: refused by 33: ");
+    let bad = folder.voice("unplayable.8svx", &unplayable());
+    run_mix(&folder, &bad, good, &[]).fails(1, "unplayable.8svx: refused by 21: ");
+    run_mix(&folder, &bad, "10 9 0 65536 127", &[]).fails(1, "score line 1: refused by 47: ");
+    assert_eq!(folder.names(), "looped.8svx out.wav score unplayable.8svx");
+    folder.are_kept(&["out.wav"]);
+}
+
+#[test]
+fn a_mix_that_is_too_long_is_told() {
+    let folder = Folder::new("mix-long");
+    let path = folder.voice("looped.8svx", &looped());
+    let held = "0 4294967295 0 65536 127";
+    let words = "mix: 4,294,967,295 frames are more than ten minutes; by --seconds ask for a length";
+    run_mix(&folder, &path, held, &["--rate=1000"]).fails(2, words);
+    // Ten minutes are a key-up at 599.97 s and a release of 30 ms.
+    run_mix(&folder, &path, "0 599971 0 65536 127", &["--rate=1000"]).fails(2, "mix: 600,001 frames are more than ten");
+    assert_eq!(
+        mix(&folder, &path, "0 599970 0 65536 127", &["--rate=1000"]).1.len(),
+        2 * 600_000
+    );
+    folder.old_files(&["out.wav"]);
+    run_mix(&folder, &path, held, &["--seconds=1000000"]).fails(2, "4 GiB of a WAV file hold; by --seconds ask");
+    run_mix(&folder, &path, held, &["--seconds=1000000", "--force"]).fails(2, "4 GiB");
+    folder.are_kept(&["out.wav"]);
+    assert_eq!(
+        mix(&folder, &path, held, &["--seconds=0.01", "--rate=1000"]).1.len(),
+        2 * 10
+    );
+    assert_eq!(folder.names(), "looped.8svx out.wav score");
+}
+
+#[test]
+fn mix_writes_over_no_file() {
+    let folder = Folder::new("mix-taken");
+    let voice = looped();
+    let (path, score) = (folder.voice("v", &voice), "0 2000 0 65536 127");
+    let (taken, spared) = (
+        "out.wav: is there already; --force writes over it",
+        "isn't written over",
+    );
+    folder.old_files(&["out.wav"]);
+    run_mix(&folder, &path, score, &[]).fails(2, taken);
+    folder.are_kept(&["out.wav"]);
+    symlink("out.wav", folder.path("link")).expect("a link");
+    fs::hard_link(folder.path("score"), folder.path("hard")).expect("a second name");
+    let score_path = folder.path("score");
+    for name in ["v", "score", "hard"] {
+        run(&[&"mix", &path, &score_path, &folder.path(name)]).fails(2, spared);
+        run(&[&"mix", &path, &score_path, &folder.path(name), &"--force"]).fails(2, spared);
+    }
+    run(&[&"mix", &path, &score_path, &folder.path("missing/out.wav")]).fails(2, "no such file or directory");
+    run(&[&"mix", &path, &score_path, &folder.0, &"--force"]).fails(2, "is a directory");
+    run_in_little_room(&[&"mix", &path, &score_path, &folder.path("link"), &"--force"])
+        .fails(2, "link: file too large");
+    run_in_little_room(&[&"mix", &path, &score_path, &folder.path("new")]).fails(2, "new: file too large");
+    assert_eq!(folder.names(), "hard link out.wav score v");
+    folder.are_kept(&["out.wav"]);
+    // By force, through a link, which stays.
+    run(&[&"mix", &path, &score_path, &folder.path("link"), &"--force"]).well();
+    let expected = mixed(&voice, &[entry(0, 2_000, 0, 65_536, 127)], 44_100, 2_000 + 1_323);
+    assert_eq!(wav(&folder.read("out.wav")), (44_100, expected));
+    assert!(folder.path("link").is_symlink());
+    run(&[&"mix", &path, &score_path, &"/dev/null"]).fails(2, "is there already");
+    run(&[&"mix", &path, &score_path, &"/dev/null", &"--force"]).well();
+    if Path::new("/dev/full").exists() {
+        run(&[&"mix", &path, &score_path, &"/dev/full", &"--force"]).fails(2, "/dev/full: no space left");
+    }
 }
 
 #[test]
@@ -1328,6 +1641,29 @@ fn every_voice_of_the_repository_is_told_and_played() {
             (44_100, expected)
         );
     }
+}
+
+#[test]
+fn the_chord_of_the_repository_is_mixed() {
+    let folder = Folder::new("chord");
+    let Some(pad) = repository("").into_iter().find(|path| path.ends_with("pad.8svx")) else {
+        return;
+    };
+    let voice = svx::parse_voice(&fs::read(&pad).expect("a file")).expect("a voice");
+    let out = folder.path("out.wav");
+    run(&[&"mix", &pad, &pad.with_file_name("chord.score"), &out]).well();
+    let entries = [
+        entry(0, 176_400, 1, 12_441, 110),
+        entry(17_640, 167_580, 1, 18_641, 100),
+        entry(35_280, 158_760, 0, 15_675, 90),
+        entry(52_920, 149_940, 0, 24_883, 80),
+    ];
+    // Four seconds and the release, 900 ms.
+    let (rate, values) = wav(&folder.read("out.wav"));
+    assert_eq!((rate, values.len()), (44_100, 2 * 216_090));
+    assert!(values == mixed(&voice, &entries, 44_100, 216_090));
+    // It isn't so loud that it would have to be held.
+    assert!(values.iter().all(|v| v.unsigned_abs() < 32_000));
 }
 
 #[test]

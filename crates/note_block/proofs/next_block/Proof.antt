@@ -1,100 +1,20 @@
 -- `note_block::next_block` meets its contract: the frames that aren't over are played, and the rest is silence.
 -- Assumes nothing.
-use Prim.Native.Nat.{ℕ, _%_, _≤_, _<_, _^_}
-use mathlib.Core.Path.{_≡_}
+use Prim.Native.Nat.{_%_, _≤_}
+use mathlib.Core.Path.{_≡_, refl}
 use native.Mathlib.Omega.{arith}
 use borrow.Author.Needs.{needs}
-use lib.ListN.{length, getD}
-use mir.Syntax.{w8}
-use mir.Val.{Fits}
+use lib.ListN.{length}
 use Rattle.sheet.specs.Read.{readSheet}
 use Rattle.body_read.specs.Sides.{Sides}
-use Rattle.note_block.proofs.SheetLaws.{places-are}
 use Rattle.note_block.proofs.AcceptedLaws.{even-places}
-use Rattle.note_block.proofs.BeginLaws.{path-asks, gains-ask, block-ready}
 use Rattle.note_frame.proofs.FrameLaws.{frame-last}
 use Rattle.note_block.proofs.WholeLaws.{whole-count, whole-buffer}
 use Rattle.note_block.proofs.next_block.Statement.{statement}
 use Rattle.note_block.proofs.next_block.Tie as tie
 
--- at the function's entry
-module _ (c : tie.After-shared-slice-known) where
-  abbrev start : tie.Start
-  start = c .before
-
-  bytes : (i : ℕ) → Fits w8 (getD (start .args .sheet .now) i 0)
-  bytes = c .shared-slice-known .given
-
-  places : let l = start .args .l in (l .attacks ≤ l .releases) × (l .releases ≤ l .sequence) × (l .sequence ≤ l .fade) × (l .fade ≤ length (start .args .sheet .now))
-  places = places-are (start .args .sheet .now) bytes (start .pre .0) (start .args .l) (start .pre .1)
-
-  small : length (start .args .left .now) < 2 ^ 63
-  small = search needs
-
--- where the sheet is known, where the path is made, and where its frames are played
-abbrev known : tie.After-sheet-header → tie.After-shared-slice-known
-known c = c .before .before .before .before
-
-abbrev path-made : tie.After-play-stage-arg → tie.After-path-of
-path-made c = c .before .before .before
-
-abbrev played : tie.After-out2 → tie.After-play-stage
-played c = c .before .before .before .before
-
-sub-segments : tie.Need-sub-segments
-sub-segments c = places c .2
-
-part-segments-start : tie.Need-part-segments-start
-part-segments-start c = let p = places c in omega arith
-
-part-segments-end : tie.Need-part-segments-end
-part-segments-end c = let p = places c in omega arith
-
-sheet-sequence-requires : tie.Need-sheet-sequence-requires
-sheet-sequence-requires c κs = search needs
-
-is-there-requires : tie.Need-is-there-requires
-is-there-requires c κs = search needs
-
-sheet-header-requires : tie.Need-sheet-header-requires
-sheet-header-requires c κs = search needs
-
-path-of-requires : tie.Need-path-of-requires
-path-of-requires c κs =
-    let k = known c in
-    let s = start k in
-    let a = s .args in
-    path-asks (a .n) (a .frames) (length (a .out .now)) (a .sheet .now) (a .l) (a .left .now) (a .right .now)
-    (bytes k) (s .pre .0) (s .pre .1) (s .pre .2) (small k) _ (c .sheet-header .ensures)
-
-gains-of-requires : tie.Need-gains-of-requires
-gains-of-requires c κs =
-    let k = known (c .before) in
-    let s = start k in
-    let a = s .args in
-    let g =
-    gains-ask (a .n) (a .frames) (length (a .out .now)) (a .sheet .now) (a .l) (a .left .now) (a .right .now)
-    (bytes k) (s .pre .0) (s .pre .1) (s .pre .2) (small k) in
-    (s .pre .0, s .pre .1, g .0, g .1)
-
-sub-room : tie.Need-sub-room
-sub-room c = search needs
-
-least-requires : tie.Need-least-requires
-least-requires c κs = search needs
-
-play-stage-requires : tie.Need-play-stage-requires
-play-stage-requires c κs =
-    let p = path-made c in
-    let k = known (p .before) in
-    let s = start k in
-    let a = s .args in
-    let counted : a .frames ≤ 4294967295 = omega (arith, s .fits .frames) in
-    let there = p .before .before in
-    block-ready (a .n) (a .frames) (length (a .out .now)) (a .sheet .now) (a .l) (a .left .now) (a .right .now)
-    (bytes k) (s .pre .0) (s .pre .1) (s .pre .2) (small k)
-    _ (p .before .sheet-header .ensures) _ _ _ (there .before .sheet-sequence .ensures) (there .is-there .ensures) (p .path-of .ensures)
-    _ _ _ (c .before .before .gains-of .ensures) counted (c .before .least .ensures)
+sounding-block-requires : tie.Need-sounding-block-requires
+sounding-block-requires c κs = search needs
 
 mul-silence-from : tie.Need-mul-silence-from
 mul-silence-from c = search needs
@@ -107,35 +27,18 @@ same-length c = search needs
 
 returns : tie.Need-returns
 returns c =
-    let p = played c in
-    let n = p .before .before in
-    let s = start (known (path-made (p .before) .before)) in
+    let p = c .before .before .before .before in
+    let s = p .before .before .before in
     let a = s .args in
     let counted : a .frames ≤ 4294967295 = omega (arith, s .fits .frames) in
     let even : length (a .out .now) % 2 ≡ 0 = even-places (readSheet (a .sheet .now)) (length (a .left .now)) (length (a .right .now)) (a .n) _ _ (s .pre .2) in
     let sides : Sides = record { left = a .left .now; right = a .right .now } in
     let last = frame-last (readSheet (a .sheet .now)) sides (a .n) in
-    let same = p .play-stage .kept .1 .1 .1 .1 .1 .1 .1 .1 .1 .0 in (
-      whole-count _ _ _ _ _ _ last counted even (n .least .ensures) (p .play-stage .ensures),
-      whole-buffer _ _ _ _ _ _ last counted even (n .least .ensures) (p .play-stage .ensures) _ same (c .before .silence-from .ensures),
+    let same = p .sounding-block .kept .1 .1 .1 .1 .1 .1 .0 in (
+      whole-count _ _ _ _ _ _ last counted even refl (p .sounding-block .ensures),
+      whole-buffer _ _ _ _ _ _ last counted even refl (p .sounding-block .ensures) _ same (c .before .silence-from .ensures),
     )
 
 pub next-block-spec : {M : Type 1} → statement M
 next-block-spec =
-    tie.close
-    (tie.spec
-    sub-segments
-    part-segments-start
-    part-segments-end
-    sheet-sequence-requires
-    is-there-requires
-    sheet-header-requires
-    path-of-requires
-    gains-of-requires
-    sub-room
-    least-requires
-    play-stage-requires
-    mul-silence-from
-    silence-from-requires
-    same-length
-    returns)
+    tie.close (tie.spec sounding-block-requires mul-silence-from silence-from-requires same-length returns)

@@ -127,6 +127,31 @@ pub fn full_voice() -> Voice {
     }
 }
 
+/// Two octaves with a loop, an attack and a release that lasts longer than a block.
+pub fn rich_voice() -> Voice {
+    let octave = |n: i32| (0..n).map(|i| (i * 37 % 251 - 125) as i8).collect::<Vec<i8>>();
+    Voice {
+        header: VoiceHeader {
+            volume: 60_000,
+            ..header(100, 300, 2, 0)
+        },
+        pan: Some(Pan { position: 20_000 }),
+        attack: vec![envelope(&[(50, 65_536)]), envelope(&[(100, 40_000)])],
+        release: vec![envelope(&[(0, 50_000), (150, 0)])],
+        ..mono(VoiceHeader::default(), vec![octave(400), octave(800)])
+    }
+}
+
+/// Eight octaves whose sequence is 4,294,967,296 samples long in octave 7, one too many.
+pub fn long_sequence() -> Voice {
+    Voice {
+        seqn: Some(Seqn {
+            segments: vec![SeqnSegment { start: 0, end: 65_536 }; 512],
+        }),
+        ..mono(header(0, 65_536, 8, 0), (0..8).map(|k| vec![0; 65_536 << k]).collect())
+    }
+}
+
 /// The next frames of a note in blocks of so many: the places, how many frames weren't over, and the note after them.
 pub fn play(sheet: &Sheet, mut note: Note, frames: usize, block: usize) -> (Vec<i16>, u64, Note) {
     let mut out = vec![0; 2 * frames];

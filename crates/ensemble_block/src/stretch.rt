@@ -1,0 +1,68 @@
+// Stretches: where one ends, and its frames.
+use crate::entry::add_entry;
+use ensemble_score::Score;
+use ensemble_score::nth_entry;
+use ensemble_sums::put_held;
+use note_block::least;
+use sheet_layout::Layout;
+ghost use mathlib.Core.Path.{_≡_};
+ghost use Prim.Native.Nat.{_/_, _≤_, _<_, _^_};
+ghost use lib.IntN.{pos};
+ghost use lib.ListN.{length, replicate};
+ghost use Rattle.sheet.specs.Read.{readSheet};
+ghost use Rattle.note_frame.specs.Frames.{framesFrom, interleaved};
+ghost use Rattle.ensemble_score.specs.Score.{listed};
+ghost use Rattle.ensemble_block.specs.Mixed.{mixedFrame};
+ghost use Rattle.ensemble_block.specs.Stretch.{cutAt, StretchTo, StretchReady};
+
+// An end, or an event that lies past `at` and before it.
+fn cut_at(at: usize, end: usize, event: u32) -> usize
+    ensures { λ r. ⌜ r ≡ cutAt at end event ⌝ }
+{
+    let frame = event as usize;
+    if frame <= at {
+        return end;
+    }
+    least(end, frame)
+}
+
+// The end of the stretch from mixed frame `at` on.
+pub(crate) fn stretch_end(score: Score, at: usize, end: usize) -> usize
+    requires { ⌜ (at < end) × (end < 2 ^ 32) × (score .count ≤ 16) ⌝ }
+    ensures { λ r. ⌜ StretchTo (listed score) at end r ⌝ }
+{
+    let mut next = least(end, at + 256);
+    let mut i = 0;
+    while i < score.count {
+        let e = nth_entry(score, i);
+        let before_start = cut_at(at, next, e.start);
+        next = cut_at(at, before_start, e.key_up);
+        i += 1;
+    }
+    next
+}
+
+// The mixed frames of a stretch. The sums are 0 before and after.
+pub(crate) fn mix_stretch(
+    score: Score,
+    rate: u32,
+    at: usize,
+    sheet: &[u8],
+    l: Layout,
+    left: &[i8],
+    right: &[i8],
+    sums: &mut [i32],
+    out: &mut [i16],
+)
+    requires { ⌜ StretchReady score rate at (now sheet) l (now left) (now right) (now sums) (now out) ⌝ }
+    ensures out { λ _. ⌜ now (out .exit) ≡ interleaved (framesFrom (mixedFrame (readSheet (now (sheet .entry))) (record { left = now (left .entry); right = now (right .entry) }) rate (listed score)) at (length (now (out .entry)) / 2)) ⌝ }
+    ensures sums { λ _. ⌜ now (sums .exit) ≡ replicate (length (now (sums .entry))) (pos 0) ⌝ }
+{
+    let mut i = score.count;
+    while 0 < i {
+        i -= 1;
+        let e = nth_entry(score, i);
+        add_entry(e, rate, at, sheet, l, left, right, sums, out);
+    }
+    put_held(sums, out);
+}

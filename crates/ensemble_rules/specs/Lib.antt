@@ -1,0 +1,2 @@
+-- The rules that turn a mix back.
+pub mod Rules

@@ -1,0 +1,2 @@
+-- A score that was taken over from a lent slice.
+pub mod Score

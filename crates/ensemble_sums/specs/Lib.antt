@@ -1,0 +1,2 @@
+-- Sums of values, and a sum held within 16 bits.
+pub mod Sums
