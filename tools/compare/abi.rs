@@ -1,5 +1,5 @@
 //! The library's C interface over slices, with a check that a refused call writes no length.
-pub use crate::c::{Note, Part, Record};
+pub use crate::c::{Entry, Note, Part, Record};
 use crate::c::*;
 use crate::plain_note;
 
@@ -121,6 +121,19 @@ pub fn note_fill(n: Note, sheet: &[u8], left: &[i8], right: &[i8], out: &mut [i1
     let f = unsafe { svx_note_fill(n, sheet.as_ptr(), sheet.len(), left.as_ptr(), left.len(), right.as_ptr(), right.len(), out.as_mut_ptr(), out.len()) };
     held_as_zero(f.note);
     f
+}
+
+/// The place after the block.
+pub fn mix(score: &[Entry], rate: u32, place: u32, sheet: &[u8], left: &[i8], right: &[i8], out: &mut [i16]) -> Result<u32, u32> {
+    let mut after = UNSET as u32;
+    let r = unsafe {
+        svx_mix(score.as_ptr(), score.len(), rate, place, sheet.as_ptr(), sheet.len(), left.as_ptr(), left.len(), right.as_ptr(), right.len(),
+            out.as_mut_ptr(), out.len(), &mut after)
+    };
+    match r {
+        0 => Ok(after),
+        r => { assert_eq!(after, UNSET as u32, "a refused call wrote a place"); Err(r) }
+    }
 }
 
 /// A held note comes back with the key-up frame 0, whatever it was handed in with.

@@ -34,7 +34,7 @@ fn header(r: &mut make::Rng, sequence: bool) -> VoiceHeader {
 }
 
 /// A voice and the samples of its sides.
-fn voice(r: &mut make::Rng) -> (Voice, Vec<i8>, Vec<i8>) {
+pub fn voice(r: &mut make::Rng) -> (Voice, Vec<i8>, Vec<i8>) {
     let sequence = r.once(3);
     let h = header(r, sequence);
     let hi = h.hi_octave_samples();

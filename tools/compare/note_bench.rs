@@ -6,11 +6,11 @@ use std::time::Instant;
 
 const FRAMES: usize = 1 << 16;
 
-fn looped(samples: u32) -> VoiceHeader {
+pub fn looped(samples: u32) -> VoiceHeader {
     VoiceHeader { one_shot_hi_samples: 0, repeat_hi_samples: samples, samples_per_hi_cycle: 0, samples_per_sec: 8000, ct_octave: 1, compression_byte: 0, volume: 60000 }
 }
 
-fn points(list: &[(u16, i32)]) -> Vec<Envelope> {
+pub fn points(list: &[(u16, i32)]) -> Vec<Envelope> {
     vec![Envelope { points: list.iter().map(|(ms, dest)| EgPoint { duration_ms: *ms, dest: *dest }).collect() }]
 }
 

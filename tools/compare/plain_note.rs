@@ -43,6 +43,15 @@ impl Sound<'_> {
 
     /// The number that turns a fill back, the sheet's own aside.
     pub fn refusal(&self, n: Note, places: usize) -> u32 {
+        let number = self.voice_refusal();
+        if number != 0 { return number; }
+        if self.too_long(n.octave) { return 24; }
+        if places % 2 == 1 { return 25; }
+        self.note_refusal(n)
+    }
+
+    /// 10, 13, 18, and 21 to 23: the voice's.
+    pub fn voice_refusal(&self) -> u32 {
         let h = &self.v.header;
         if h.compression_byte > 1 { return 10; }
         let Some(total) = h.total_samples_per_channel() else { return 13 };
@@ -54,8 +63,14 @@ impl Sound<'_> {
         if let Some(f) = self.v.fade {
             if f.segment as usize >= self.segments().len() { return 23; }
         }
-        if self.octave_there(n.octave) && self.joined_length(usize::MAX, n.octave) > LAST as u128 { return 24; }
-        if places % 2 == 1 { return 25; }
+        0
+    }
+
+    /// 24: the sequence in an octave that is there.
+    pub fn too_long(&self, k: u8) -> bool { self.octave_there(k) && self.joined_length(usize::MAX, k) > LAST as u128 }
+
+    /// 31 to 34, and 44: the note's.
+    pub fn note_refusal(&self, n: Note) -> u32 {
         if !self.octave_there(n.octave) { return 31; }
         if n.step == 0 || n.step > 16_777_216 { return 32; }
         if n.rate == 0 || n.rate > 192_000 { return 33; }

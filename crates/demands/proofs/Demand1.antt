@@ -49,6 +49,7 @@ use Rattle.demands.proofs.ReadNumbers.{sides-within, reading-within}
 use Rattle.demands.proofs.WriteNumbers.{sheet-number, writing-within}
 use Rattle.demands.proofs.FillNumbers.{fill-within}
 use Rattle.demands.proofs.WaveNumbers.{wave-within}
+use Rattle.demands.proofs.MixNumbers.{mix-or-keeps}
 
 -- ---- one buffer
 
@@ -165,5 +166,6 @@ demand1 = record {
   reader-advance = λ r step n e. rw e refl;
   note-fill = λ sheet sides note buffer n.
       filled-or-keeps fillNumbers note buffer n (fillSheet sheet sides (note .playing) (note .frames) (length buffer)) (fill-within sheet sides (note .playing) (note .frames) (length buffer));
+  mix = mix-or-keeps;
   make-calls = made-or-keeps;
 }

@@ -6,11 +6,14 @@ pub mod ReadNumbers
 pub mod WriteNumbers
 pub mod Accepted
 pub mod Played
+pub mod InOrder
 pub mod OneNote
 pub mod FillNumbers
 pub mod WaveNumbers
+pub mod MixNumbers
 pub mod Demand1
 pub mod Demand2
 pub mod Demand3
 pub mod ReadWave
+pub mod Ensemble
 pub mod TableP

@@ -2,18 +2,17 @@
 -- out before it, so each block is of that note; and the last state's key is the first key-up's. Each count is of
 -- that note's own frames too.
 -- Assumes nothing.
-use Prim.Native.Nat.{ℕ, _+_, _*_, _/_, _<_, min}
+use Prim.Native.Nat.{ℕ, _+_, _/_, _<_, min}
 use mathlib.Core.Bool.{cond}
 use mathlib.Core.List.{List, [], _∷_, _++_}
 use mathlib.Core.Path.{_≡_, refl, sym, ap, _∙_}
 use native.Mathlib.Nat.{add-zero, zero-add}
 use native.Mathlib.Omega.{arith}
-use lib.IntN.{ℤ}
 use lib.ListN.{length, length-append}
 use Rattle.refusal.specs.Outcome.{Outcome, gives, refuses}
 use Rattle.note_frame.specs.declared.chain.Frame.{Frame}
-use Rattle.note_frame.specs.Frames.{framesFrom, interleaved, sounding}
-use Rattle.note_frame.proofs.FramesLaws.{frames-none, frames-length, frames-join, frames-same, interleaved-none, interleaved-length, interleaved-half, interleaved-join}
+use Rattle.note_frame.specs.Frames.{framesFrom, sounding}
+use Rattle.note_frame.proofs.FramesLaws.{frames-none, frames-length, frames-same, interleaved-none}
 use Rattle.note_frame.specs.declared.playing.Key.{Key}
 use Rattle.note_frame.specs.declared.playing.Key.the-variants.{Held, Released}
 use Rattle.note.specs.declared.Answer.{Answer}
@@ -22,42 +21,13 @@ use Rattle.note_frame.proofs.FrameLaws.{frame-put}
 use Rattle.voice_read.specs.ReadVoice.{Reading}
 use Rattle.demands.specs.Reckoning.{Call, fill, keyUp, Started, State, playing, atFirst, setBy, fillAt, answerTo, grown, putOut, reckonFrom}
 use Rattle.demands.specs.Reckoning.{hasKeyUp, beforeKeyUp, framesOf, noteKey, noteFrame, Counted, OneNote}
+use Rattle.demands.proofs.InOrder.{blockOf, put-length, InOrder, order-put, order-count}
 
--- ---- what a fill puts out
-
--- its block; a fill turned back has none
-abbrev blockOf : Outcome (List Frame) → List Frame
-blockOf (gives block) = block
-blockOf (refuses number) = []
+-- ---- what a fill leaves of the state
 
 grown-is : (o : Outcome (List Frame)) (state : State) → grown o state ≡ record { n = state .n + length (blockOf o); u = state .u }
 grown-is (gives block) state = refl
 grown-is (refuses number) state = rw add-zero
-
-put-length : (o : Outcome (List Frame)) → length (putOut o) ≡ 2 * length (blockOf o)
-put-length (gives block) = interleaved-length block
-put-length (refuses number) = refl
-
--- ---- values that are frames in order
-
-record InOrder (f : ℕ → Frame) (n : ℕ) (values : List ℤ) : Type 0 where
-  count : ℕ
-  is : values ≡ interleaved (framesFrom f n count)
-
-module _ (f : ℕ → Frame) (n : ℕ) where
-  order-put : (o : Outcome (List Frame)) (values : List ℤ) → blockOf o ≡ framesFrom f n (length (blockOf o)) → InOrder f (n + length (blockOf o)) values → InOrder f n (putOut o ++ values)
-  order-put (gives block) values e later =
-      let rest = framesFrom f (n + length block) (later .count) in
-      record {
-        count = length block + later .count;
-        is = ap (λ l. interleaved block ++ l) (later .is) ∙ rw (frames-join f n (length block) (later .count), ← e) (sym (interleaved-join block rest));
-      }
-  order-put (refuses number) values e later = rw add-zero at later
-
-  order-count : (values : List ℤ) → InOrder f n values → values ≡ interleaved (framesFrom f n (length values / 2))
-  order-count values o =
-      let half : length values / 2 ≡ o .count = ap (λ (l : List ℤ). length l / 2) (o .is) ∙ interleaved-half (framesFrom f n (o .count)) ∙ frames-length f n (o .count) in
-      rw half (o .is)
 
 module _ (r : Reading) (s : Started) where
   -- the note's frames, with this key

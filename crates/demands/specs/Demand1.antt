@@ -1,8 +1,8 @@
 -- Demand 1. Whatever the bytes are, every entry finishes with its result or with one of the numbers that are listed for it, and a
 -- refused call changes no lent buffer and no note.
 -- That an entry finishes, and reads and writes within its slices alone, is what a proved crate says. The contracts of the entries say their
--- answers and buffers by the definitions below. There is a field for each entry of the crate `voice` that can refuse; the others have no
--- number to give. It is proved as `demand1`.
+-- answers and buffers by the definitions below. There is a field for each entry of the crates `voice` and `ensemble` that can refuse; the
+-- others have no number to give. It is proved as `demand1`.
 use Prim.Native.Nat.{ℕ}
 use mathlib.Core.Bool.{Bool}
 use mathlib.Core.List.{List, [], _∷_, map}
@@ -14,6 +14,7 @@ use Rattle.refusal.specs.Numbers.{fileShort, notForm, not8svx, chunkPastForm, c
 use Rattle.refusal.specs.Numbers.{compression, oddHalves, channelShort, octaveTotal, samplesShort}
 use Rattle.refusal.specs.Numbers.{recordCut, recordWrong, textIllFormed, sampleLengths, formLength, bufferShort}
 use Rattle.refusal.specs.Numbers.{segment, sequenceOneShot, fadeSegment, sequenceLength, oddPlaces, noOctave, step, rate, keyUp, voiceRate, noCrossing, velocity}
+use Rattle.refusal.specs.Numbers.{startOrder, entryCount, earlyKeyUp}
 use Rattle.refusal.specs.Outcome.{Outcome, gives, refuses, answer, lengthOf, bufferAfter}
 use Rattle.refusal.specs.declared.Output.the-variants as Output
 use Rattle.field.specs.Signed.{sampleOf, byteOf}
@@ -57,6 +58,9 @@ use Rattle.voice_read.specs.Parsed.{Lent, neededBy, afterReading}
 use Rattle.voice_read.specs.declared.chunks.Parsed.the-variants as Parsed
 use Rattle.voice_write.specs.WriteVoice.{writeSheet}
 use Rattle.wave.specs.Wave.{octaveWaveOf}
+use Rattle.ensemble_score.specs.declared.Entry.{Entry}
+use Rattle.ensemble.specs.Mix.{afterMix}
+use Rattle.ensemble.specs.declared.Mixed.the-variants as Mixed
 
 -- ---- the numbers
 
@@ -99,6 +103,12 @@ fillNumbers =
 -- an octave as WAVE: 10, 13, 15 to 18, 31, 41, 19
 abbrev pub waveNumbers : List ℕ
 waveNumbers = compression ∷ octaveTotal ∷ recordCut ∷ recordWrong ∷ textIllFormed ∷ sampleLengths ∷ noOctave ∷ voiceRate ∷ formLength ∷ []
+
+-- mixing a block of a score: 10, 13, 15 to 18, 21 to 25, 31 to 33, 44 to 47
+abbrev pub mixNumbers : List ℕ
+mixNumbers =
+    compression ∷ octaveTotal ∷ recordCut ∷ recordWrong ∷ textIllFormed ∷ sampleLengths
+    ∷ segment ∷ sequenceOneShot ∷ fadeSegment ∷ sequenceLength ∷ oddPlaces ∷ noOctave ∷ step ∷ rate ∷ velocity ∷ startOrder ∷ entryCount ∷ earlyKeyUp ∷ []
 
 -- one record of a sheet: 15, 16
 abbrev pub recordNumbers : List ℕ
@@ -168,6 +178,9 @@ pub record Demand1 : Type 0 where
   -- a note's fill is refused by 10, 13, 15 to 18, 21 to 25, 31 to 34 or 44, and then the note and the buffer are as they were
   pub note-fill : (sheet : List ℕ) (sides : Sides) (note : Note) (buffer : List ℤ) (n : ℕ) → afterFill sheet sides note buffer .answer ≡ Answer.Refused n
       → Among n fillNumbers × (afterFill sheet sides note buffer .note ≡ note) × (afterFill sheet sides note buffer .buffer ≡ buffer)
+  -- mix is refused by 10, 13, 15 to 18, 21 to 25, 31 to 33 or 44 to 47, and then the buffer is as it was
+  pub mix : (score : List Entry) (rate place : ℕ) (sheet : List ℕ) (sides : Sides) (buffer : List ℤ) (n : ℕ) → afterMix score rate place sheet sides buffer .answer ≡ Mixed.Refused n
+      → Among n mixNumbers × (afterMix score rate place sheet sides buffer .buffer ≡ buffer)
   -- make_calls is refused by 20 alone, and then both buffers are as they were
   pub make-calls : (sheet : List ℕ) (sides : Sides) (note : Note) (calls : List ℕ) (blocks : List ℤ) (answers : List ℕ) (n : ℕ) →
       let left = afterCalls sheet sides note calls blocks answers in

@@ -2,15 +2,13 @@
 use ensemble_block::mixed_block;
 use ensemble_rules::play_refusal;
 use ensemble_rules::score_refusal;
-use ensemble_score::Entry;
-use ensemble_score::Score;
-use ensemble_score::score_of;
+use note_block::least;
 use sheet_layout::layout_of;
 use voice::Judged;
 use voice::judge_sheet;
 ghost use mathlib.Core.Path.{_≡_};
 ghost use mathlib.Core.List.{List};
-ghost use Prim.Native.Nat.{_≤_};
+ghost use Prim.Native.Nat.{_≤_, _<_, _^_};
 ghost use lib.ListN.{length};
 ghost use Rattle.sheet.specs.Judge.{judged};
 ghost use Rattle.sheet.specs.Read.{readSheet};
@@ -32,13 +30,11 @@ pub enum Mixed {
 
 // The place after so many frames more; it stops at 4,294,967,295.
 fn place_after(place: u32, frames: usize) -> u32
+    requires { ⌜ frames < 2 ^ 63 ⌝ }
     ensures { λ r. ⌜ r ≡ placeAfter place frames ⌝ }
 {
-    let room = 4294967295 - place;
-    if frames <= room as usize {
-        return place + frames as u32;
-    }
-    4294967295
+    let sum = place as usize + frames;
+    least(sum, 4294967295) as u32
 }
 
 // A mix on a sound sheet, of a score that its own rules don't turn back.

@@ -43,3 +43,13 @@ playRules v left right score rate places = voiceRules v left right ++ sequenceRu
 -- all of them
 unfoldable pub mixRules : Voice → ℕ → ℕ → List Entry → ℕ → ℕ → List Rule
 mixRules v left right score rate places = scoreRules score ++ playRules v left right score rate places
+
+-- the numbers of the score's own rules, entry by entry
+abbrev pub orderNumbers : List Entry → List ℕ
+orderNumbers [] = []
+orderNumbers (e ∷ es) = 45 ∷ 47 ∷ orderNumbers es
+
+-- the numbers of the rules of every entry, in the score's order
+abbrev pub entryNumbers : List Entry → List ℕ
+entryNumbers [] = []
+entryNumbers (e ∷ es) = 24 ∷ 31 ∷ 32 ∷ 33 ∷ 44 ∷ entryNumbers es

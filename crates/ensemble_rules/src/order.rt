@@ -46,7 +46,8 @@ fn order_refusal(s: Score) -> u8
 
 // 46, 45 and 47, or 0.
 pub fn score_refusal(s: Score) -> u8
-    ensures { λ r. ⌜ ((score : List Entry) → TakenFrom score s → r ≡ firstHolding (scoreRules score)) ⌝ }
+    ensures result { λ r. ⌜ ((score : List Entry) → TakenFrom score s → r ≡ firstHolding (scoreRules score)) ⌝ }
+    ensures few { λ r. ⌜ (r ≡ 0 → s .count ≤ 16) ⌝ }
 {
     if 16 < s.count {
         return refusal::ENTRY_COUNT;

@@ -18,10 +18,10 @@ pub record FourFrom (score : List Entry) (i : ℕ) (f : Four) : Type 0 where
   pub third-is : f .third ≡ getD score (i + 2) blank
   pub fourth-is : f .fourth ≡ getD score (i + 3) blank
 
--- what is taken over: the score's length, and its entry at each of the first sixteen places, or a blank one past its end
+-- what is taken over: the score's length, and its entry at each of the first sixteen places that it has; what stands past its end doesn't matter
 pub record TakenFrom (score : List Entry) (s : Score) : Type 0 where
   pub count-is : s .count ≡ length score
-  pub entries-are : (i : ℕ) → i < 16 → getD (s .entries) i blank ≡ getD score i blank
+  pub entries-are : (i : ℕ) → i < 16 → i < length score → getD (s .entries) i blank ≡ getD score i blank
 
 -- the entries of a score that was taken over; where it has at most sixteen, these are all
 abbrev pub listed : Score → List Entry

@@ -1,9 +1,11 @@
 // Plays one note on the voice that standard input holds, as four stems: in blocks of 1, 7, 64 and 1,000 frames, each with the key-up
 // after 1,000 frames. It prints some frames of the first stem, then for each stem how many of its frames aren't over, and how many of
-// its values differ from the first stem's: none, since a note sounds the same however it is cut into blocks.
+// its values differ from the first stem's: none, since a note sounds the same however it is cut into blocks. Then it does the same with a
+// chord (`chord`).
 //
 // The file `stdin` beside src/ is a looped voice of two octaves, with a pan, an attack of 80 milliseconds and a release of 100, so that
 // at 8,000 frames a second the note is over 800 frames after the key-up.
+mod chord;
 mod compare;
 mod report;
 mod stem;
@@ -44,6 +46,7 @@ fn play_file(file: &[u8]) {
             let a = smaller(l.left, 1024);
             let b = smaller(l.right, 1024);
             play_voice(&sheet[..s], &left[..a], &right[..b]);
+            chord::mix_voice(&sheet[..s], &left[..a], &right[..b]);
         }
     }
 }

@@ -1,4 +1,4 @@
-// A stem in print.
+// A stem or a mix in print.
 use print::number;
 use print::say;
 ghost use Prim.Native.Nat.{_+_, _*_, _≤_};
@@ -55,10 +55,18 @@ pub fn stem(block: usize, values: &[i16], sounding: usize) {
     say(b" not over");
 }
 
+// The place that a mix has come to.
+pub fn mixed(block: usize, place: u32) {
+    say(b"mixed in blocks of ");
+    number(block as u64);
+    say(b" up to ");
+    number(place as u64);
+}
+
 pub fn difference(n: usize) {
     say(b", ");
     number(n as u64);
-    say(b" values differ from the first stem\n");
+    say(b" values differ from the first\n");
 }
 
 pub fn refused(n: u8) {

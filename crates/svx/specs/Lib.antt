@@ -2,3 +2,4 @@
 pub mod Answers
 pub mod Shapes
 pub mod Notes
+pub mod Mixer

@@ -1,6 +1,7 @@
 //! Mixes: which are refused and in which order, blocks, starts and key-ups, and sums.
 mod common;
 use common::{full_voice, header, long_sequence, mono, play, rich_voice, sequenced};
+use std::mem::{offset_of, size_of};
 use svx::{mix, Entry, Note, Sheet, Voice};
 
 /// An entry that nothing turns back on a voice of one octave.
@@ -95,6 +96,18 @@ fn rich_score() -> [Entry; 6] {
         octave,
         velocity,
     })
+}
+
+#[test]
+fn entries_lie_as_in_c() {
+    let places = [
+        offset_of!(Entry, start),
+        offset_of!(Entry, key_up),
+        offset_of!(Entry, step),
+        offset_of!(Entry, octave),
+        offset_of!(Entry, velocity),
+    ];
+    assert_eq!((places, size_of::<Entry>()), ([0, 4, 8, 12, 13], 16));
 }
 
 #[test]

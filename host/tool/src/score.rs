@@ -5,10 +5,7 @@ use crate::files::Input;
 use crate::notes::{frames, LARGEST_32};
 use crate::words::{counted, grouped};
 use std::ffi::OsStr;
-use svx::{Entry, Refusal, Sheet};
-
-/// The rules that an entry of a score is turned back by. The output rate, 33, is no entry's own.
-const OF_ENTRIES: [u32; 6] = [24, 31, 32, 44, 45, 47];
+use svx::{Entry, Sheet};
 
 /// The highest step that the library takes.
 const HIGHEST_STEP: f64 = 16_777_216.0;
@@ -35,7 +32,7 @@ impl Score {
             let words = words(line);
             if !words.is_empty() {
                 let entry = entry(&words, tuning);
-                entries.push(entry.map_err(|words| Failure::wrong(&in_line(&input, number), words))?);
+                entries.push(entry.map_err(|why| Failure::wrong(&in_line(&input, number), why))?);
                 lines.push(number);
             }
         }
@@ -48,32 +45,23 @@ impl Score {
         Ok(Score { input, entries, lines })
     }
 
-    /// Has the library judge the whole score before anything is written.
+    /// Has the library judge the score before anything is written: what turns back one block turns back all.
     pub fn judge(&self, voice: &Input, sheet: &Sheet, rate: u32) -> Result<(), Failure> {
-        let judge = |count| svx::mix(&self.entries[..count], rate, 0, sheet, &mut []).err();
+        let judge = |count: usize| svx::mix(&self.entries[..count], rate, 0, sheet, &mut []).err();
         let Some(refusal) = judge(self.entries.len()) else {
             return Ok(());
         };
-        // The library answers a number alone. The entry to blame is the last of the shortest beginning that has it too.
-        let counts = 1..=self.entries.len();
-        let blamed = counts
-            .zip(&self.lines)
-            .find(|(count, _)| judge(*count) == Some(refusal));
-        Err(match blamed {
-            Some((_, line)) if OF_ENTRIES.contains(&refusal.number()) => {
-                Failure::refused(&in_line(&self.input, *line), refusal)
+        let what = match refusal.number() {
+            24 | 31 | 32 | 44 | 45 | 47 => {
+                // The library answers a number alone. The shortest beginning that has it too ends with the entry to blame.
+                let blamed = (1..).zip(&self.lines).find(|(count, _)| judge(*count) == Some(refusal));
+                blamed.map(|(_, line)| in_line(&self.input, *line))
             }
-            _ => self.refused_as_a_whole(voice, refusal),
-        })
-    }
-
-    /// What the number of entries is refused by is the score's; all else is the voice's, or the rate's.
-    fn refused_as_a_whole(&self, voice: &Input, refusal: Refusal) -> Failure {
-        if refusal.number() == 46 {
-            self.input.refused(refusal)
-        } else {
-            voice.refused(refusal)
-        }
+            46 => Some(self.input.name.clone()),
+            // The voice's own, and the output rate, which is no entry's.
+            _ => None,
+        };
+        Err(Failure::refused(what.as_ref().unwrap_or(&voice.name), refusal))
     }
 }
 
@@ -138,8 +126,8 @@ fn step(word: &str, octave: u8, tuning: &Tuning) -> Result<u32, String> {
     })
 }
 
-/// How many semitones a note is above A4. None where the word is no note: a letter, a #, a b or a - that says nothing, and
-/// the number of its octave.
+/// How many semitones a note is above A4. None where the word is no note: a letter, perhaps a #, a b or a - (which says
+/// nothing), and the digit of its octave.
 fn semitones(word: &str) -> Option<i32> {
     let (letter, rest) = word.split_at_checked(1)?;
     let from_c = match letter.to_ascii_uppercase().as_str() {
@@ -158,8 +146,10 @@ fn semitones(word: &str) -> Option<i32> {
         ("-", octave) => (0, octave),
         _ => (0, rest),
     };
-    let octave = whole(octave).filter(|n| *n <= 9)? as i32;
-    Some(from_c + sign - 9 + 12 * (octave - 4))
+    let &[digit @ b'0'..=b'9'] = octave.as_bytes() else {
+        return None;
+    };
+    Some(from_c + sign - 9 + 12 * (i32::from(digit - b'0') - 4))
 }
 
 /// The step at which an octave of the voice sounds as a note, in equal temperament, where A4 has 440 Hz.
@@ -207,7 +197,7 @@ mod tests {
             }
         }
         for word in [
-            "", "C", "C#", "C-", "C--4", "H4", "C10", "C-10", "4", "4C", "C4#", "CB4", "C+4", "C##4", "é4", "Cé",
+            "", "C", "C#", "C-", "C--4", "H4", "C10", "C-10", "C04", "4", "4C", "C4#", "CB4", "C+4", "C##4", "é4", "Cé",
         ] {
             assert_eq!(semitones(word), None, "{word}");
         }

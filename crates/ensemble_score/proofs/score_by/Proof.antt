@@ -40,7 +40,7 @@ module _ (score : List Entry) where
       four-more 0 a (b before c before d before []) in-a second i h ∙ at (0 + i) i (omega arith)
 
 returns : tie.Need-returns
-returns c score count-is in-a in-b in-c in-d = record { count-is = count-is; entries-are = all-four score in-a in-b in-c in-d }
+returns c score count-is in-a in-b in-c in-d = record { count-is = count-is; entries-are = λ i h there. all-four score in-a in-b in-c in-d i h }
 
 pub score-by-spec : {M : Type 1} → statement M
 score-by-spec = tie.close (tie.spec returns)

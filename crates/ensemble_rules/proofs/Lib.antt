@@ -1,0 +1,2 @@
+-- Laws that this crate's proofs and those above cite.
+pub mod RuleLaws
