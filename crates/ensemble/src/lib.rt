@@ -39,7 +39,8 @@ fn place_after(place: u32, frames: usize) -> u32
 
 // A mix on a sound sheet, of a score that its own rules don't turn back.
 fn mix_sound(
-    score: Score,
+    count: usize,
+    numbers: &[u32; 80],
     rate: u32,
     place: u32,
     sheet: &[u8],
@@ -47,17 +48,26 @@ fn mix_sound(
     right: &[i8],
     out: &mut [i16],
 ) -> Mixed
-    requires { ⌜ (judged (now sheet) ≡ Sound) × (score .count ≤ 16) × (firstHolding (scoreRules (listed score)) ≡ 0) ⌝ }
-    ensures answer { λ r. ⌜ r ≡ mixLeaves (mixVoice (listed score) rate place (readSheet (now (sheet .entry))) (record { left = now (left .entry); right = now (right .entry) }) (length (now (out .entry)))) place (now (out .entry)) .answer ⌝ }
-    ensures buffer { λ _. ⌜ now (out .exit) ≡ mixLeaves (mixVoice (listed score) rate place (readSheet (now (sheet .entry))) (record { left = now (left .entry); right = now (right .entry) }) (length (now (out .entry)))) place (now (out .entry)) .buffer ⌝ }
+    requires { ⌜ (judged (now sheet) ≡ Sound) × (count ≤ 16) × (firstHolding (scoreRules (listed count (now numbers))) ≡ 0) ⌝ }
+    ensures answer { λ r. ⌜ r ≡ mixLeaves (mixVoice (listed count (now (numbers .entry))) rate place (readSheet (now (sheet .entry))) (record { left = now (left .entry); right = now (right .entry) }) (length (now (out .entry)))) place (now (out .entry)) .answer ⌝ }
+    ensures buffer { λ _. ⌜ now (out .exit) ≡ mixLeaves (mixVoice (listed count (now (numbers .entry))) rate place (readSheet (now (sheet .entry))) (record { left = now (left .entry); right = now (right .entry) }) (length (now (out .entry)))) place (now (out .entry)) .buffer ⌝ }
 {
     let l = layout_of(sheet);
-    let number = play_refusal(sheet, l, left.len(), right.len(), score, rate, out.len());
+    let number = play_refusal(
+        sheet,
+        l,
+        left.len(),
+        right.len(),
+        count,
+        numbers,
+        rate,
+        out.len(),
+    );
     if number != 0 {
         return Mixed::Refused(number);
     }
     let frames = out.len() / 2;
-    mixed_block(score, rate, place, sheet, l, left, right, out);
+    mixed_block(count, numbers, rate, place, sheet, l, left, right, out);
     Mixed::Place(place_after(place, frames))
 }
 
@@ -74,13 +84,15 @@ pub fn mix_score(
     ensures answer { λ r. ⌜ ((entries : List Entry) → TakenFrom entries score → r ≡ afterMix entries rate place (now (sheet .entry)) (record { left = now (left .entry); right = now (right .entry) }) (now (out .entry)) .answer) ⌝ }
     ensures buffer { λ _. ⌜ ((entries : List Entry) → TakenFrom entries score → now (out .exit) ≡ afterMix entries rate place (now (sheet .entry)) (record { left = now (left .entry); right = now (right .entry) }) (now (out .entry)) .buffer) ⌝ }
 {
-    let number = score_refusal(score);
+    let count = score.count;
+    let numbers = score.numbers;
+    let number = score_refusal(count, &numbers);
     if number != 0 {
         return Mixed::Refused(number);
     }
     match judge_sheet(sheet) {
         Judged::Refused(number) => Mixed::Refused(number),
-        Judged::Sound => mix_sound(score, rate, place, sheet, left, right, out),
+        Judged::Sound => mix_sound(count, &numbers, rate, place, sheet, left, right, out),
     }
 }
 

@@ -1,19 +1,12 @@
 -- One entry added to the sums of a stretch: its block's frames that aren't over are added, and those after them are silent.
 --     added-nothing, added-frames          an entry that hasn't started, and one that has
---     FirstFit, fit-next, within-read      values that fit 16 bits, and how large the sums get with them
 -- Assumes nothing.
 use Prim.Native.Nat.{ℕ, _+_, _-_, _*_, _/_, _%_, _≤_, _<_, min}
-use mathlib.Core.Bool.{Bool, true, false}
 use mathlib.Core.List.{List, _++_}
-use mathlib.Core.Path.{_≡_, refl, sym, ap, subst, _∙_}
+use mathlib.Core.Path.{_≡_, sym, ap, subst, _∙_}
 use native.Mathlib.Omega.{arith}
-use borrow.Author.Tests.{ltb-true, ltb-false}
-use lib.Dec.{ltb}
 use lib.IntN.{ℤ, pos}
-use lib.ListN.{length, take, drop, getD, replicate, List·getD-eq-default}
-use lib.Seq.{getD-take, length-take-le, take-take}
-use mir.Syntax.{w16}
-use mir.Val.{SFits}
+use lib.ListN.{length, drop, replicate}
 use Rattle.sheet.specs.Voice.{Voice}
 use Rattle.body_read.specs.Sides.{Sides}
 use Rattle.note_frame.specs.Frame.{silent, withKey, frame}
@@ -23,8 +16,8 @@ use Rattle.note_frame.specs.declared.playing.Key.{Key}
 use Rattle.note_frame.proofs.FramesLaws.{frames-silent, frames-join, interleaved-frames, interleaved-join, interleaved-silent}
 use Rattle.note_stage.specs.Block.{Played}
 use Rattle.ensemble_score.specs.declared.Entry.{Entry}
-use Rattle.ensemble_sums.specs.Sums.{plus, addedTo, Within}
-use Rattle.ensemble_sums.proofs.SumLaws.{plus-zeros, added-zeros, within-added}
+use Rattle.ensemble_sums.specs.Sums.{plus, addedTo}
+use Rattle.ensemble_sums.proofs.SumLaws.{plus-zeros, added-zeros}
 use Rattle.ensemble_block.specs.Mixed.{entryNote, entryFrame}
 use Rattle.ensemble_block.specs.Stretch.{Calm, keyAt, playingAt}
 use Rattle.ensemble_block.proofs.EntryLaws.{entry-waits, entry-plays}
@@ -69,35 +62,3 @@ module _ (v : Voice) (s : Sides) (rate : ℕ) (e : Entry) (at : ℕ) (sums befor
         let whole : min (length before / 2) (4294967295 - (at - e .start)) ≡ length before / 2 = omega arith in
         let by-key = subst (λ (k : Key). Played (frame v s (withKey (entryNote rate e) k)) (at - e .start) (min (length before / 2) (4294967295 - (at - e .start))) before mid r) is p in
         added-playing mid r (subst (λ (d : ℕ). Played (frame v s (playingAt rate at e)) (at - e .start) d before mid r) whole by-key)
-
--- ---- how large the sums get
-
--- the first n values fit 16 bits
-abbrev pub FirstFit : List ℤ → ℕ → Type 0
-FirstFit values n = (i : ℕ) → i < n → SFits w16 (getD values i (pos 0))
-
-pub fit-next : (values : List ℤ) (n : ℕ) → FirstFit values n → SFits w16 (getD values n (pos 0)) → FirstFit values (n + 1)
-fit-next values n fit here i h = go (ltb i n) refl
-  where
-    go : (t : Bool) → ltb i n ≡ t → SFits w16 (getD values i (pos 0))
-    go true t = fit i (ltb-true i n t)
-    go false t =
-        let same : i ≡ n = omega (arith, ltb-false i n t) in
-        rw same here
-
-module _ (b n : ℕ) (values sums : List ℤ) (enough : n ≤ length values) (room : n ≤ length sums) (fit : FirstFit values n) where
-  taken-fit : (i : ℕ) → SFits w16 (getD (take n values) i (pos 0))
-  taken-fit i = go (ltb i n) refl
-    where
-      go : (t : Bool) → ltb i n ≡ t → SFits w16 (getD (take n values) i (pos 0))
-      go true t =
-          let inside = ltb-true i n t in
-          rw (getD-take n values i (pos 0) inside) (fit i inside)
-      go false t =
-          let past : length (take n values) ≤ i = omega (arith, ltb-false i n t, length-take-le n values enough) in
-          rw (List·getD-eq-default (take n values) (pos 0) past) (record { sfits = omega arith })
-
-  pub within-read : Within b sums → Within (b + 32768) (addedTo sums n values)
-  within-read h =
-      let same : take n (take n values) ≡ take n values = take-take n n values (omega arith) in
-      rw same at (within-added b n (take n values) sums (omega (arith, length-take-le n values enough)) room taken-fit h)

@@ -17,8 +17,7 @@ use Rattle.note_frame.specs.Frame.{silent}
 use Rattle.note_frame.specs.Frames.{framesFrom, interleaved}
 use Rattle.note_frame.specs.declared.chain.Frame.{Frame}
 use Rattle.note_frame.proofs.FramesLaws.{frames-silent, frames-join, frames-split, interleaved-frames, interleaved-join, interleaved-silent, interleaved-none}
-use Rattle.ensemble_score.specs.Score.{listed}
-use Rattle.ensemble_score.specs.declared.Score.{Score}
+use Rattle.ensemble_score.specs.declared.Entry.{Entry}
 use Rattle.ensemble_block.specs.Stretch.{StretchTo, Mixable, StretchReady}
 
 -- frames from `place` up to `at` stand at the front of a buffer, and past them what it held
@@ -98,8 +97,8 @@ zeros-back n k sums totals h is zeros =
     let rest = ap (drop n) (is ∙ zeros-are n k h) ∙ drop-at (replicate n (pos 0)) (replicate (k - n) (pos 0)) n (length-replicate n (pos 0)) in
     rw (zeros, many, rest) (sym (zeros-are n k h))
 
-pub stretch-ready : (score : Score) (rate at next end : ℕ) (sheet : List ℕ) (l : Layout) (left right totals part : List ℤ) → Mixable score rate sheet l left right
-    → StretchTo (listed score) at end next → end ≤ 4294967295 → length part ≡ 2 * (next - at) → totals ≡ replicate (2 * (next - at)) (pos 0)
+pub stretch-ready : (score : List Entry) (rate at next end : ℕ) (sheet : List ℕ) (l : Layout) (left right totals part : List ℤ) → Mixable score rate sheet l left right
+    → StretchTo score at end next → end ≤ 4294967295 → length part ≡ 2 * (next - at) → totals ≡ replicate (2 * (next - at)) (pos 0)
     → StretchReady score rate at sheet l left right totals part
 stretch-ready score rate at next end sheet l left right totals part mixable stretch in-time long zeros =
     let past : at + length part / 2 ≡ next = omega (arith, stretch .some) in

@@ -1,7 +1,8 @@
 -- An entry in a calm stretch: it is silent throughout, or its note plays throughout, held or released.
---     key-released, key-held        its key, by the stretch's first frame
---     entry-plays, entry-waits      its frames
---     entry-accepted                no rule turns its note back
+--     key-released, key-held            its key, by the stretch's first frame
+--     entry-started, entry-not-yet      one frame of it
+--     entry-plays, entry-waits          its frames in a stretch
+--     entry-accepted                    no rule turns its note back
 -- Assumes nothing.
 use Prim.Native.Nat.{ℕ, _+_, _-_, _%_, _≤_, _<_}
 use mathlib.Core.Bool.{Bool, true, false}

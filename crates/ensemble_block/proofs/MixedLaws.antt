@@ -41,11 +41,11 @@ next-together f fs = refl
 module _ (v : Voice) (s : Sides) (rate : ℕ) (score : List Entry) (m : ℕ) where
   pub mixed-is : m < 4294967295 → mixedFrame v s rate score m ≡ heldFrame (allTogether (map (entryFrame v s rate m) score))
   unfolding mixedFrame
-  mixed-is h = rw (lt-ltb m 4294967295 h)
+  mixed-is h = rw lt-ltb
 
   pub mixed-last : 4294967295 ≤ m → mixedFrame v s rate score m ≡ silent
   unfolding mixedFrame
-  mixed-last h = rw (le-ltb m 4294967295 h)
+  mixed-last h = rw le-ltb
 
 pub no-entry : (v : Voice) (s : Sides) (rate m : ℕ) → mixedFrame v s rate [] m ≡ silent
 no-entry v s rate m = go (ltb m 4294967295) refl

@@ -1,24 +1,22 @@
 -- Where a stretch ends: entry by entry it is cut at a start and at a key-up that lie within it.
 --     cut-past, cut-within                      an event that lies before, or past, the stretch's first frame
---     calm-before                               an end that comes sooner
---     stretch-none, stretch-more, stretch-all   of no entries, of one more, and of all
+--     calm-before, all-at                       an end that comes sooner; one of those for which something holds
+--     stretch-none, stretch-all, stretch-more   of no entries, of all, and of one more
 -- Assumes nothing.
 use Prim.Native.Nat.{ℕ, zero, suc, _+_, _≤_, _<_, min}
 use mathlib.Core.Bool.{Bool, true, false}
 use mathlib.Core.List.{List, [], _∷_, _++_}
 use mathlib.Core.Path.{_≡_, refl}
 use native.Mathlib.Nat.{not-suc-le-zero, le-of-suc-le-suc}
-use native.Mathlib.Numerals.{add-one}
 use native.Mathlib.Omega.{arith}
 use borrow.Author.Tests.{le-leb, lt-leb, leb-true, leb-false}
 use lib.Dec.{leb}
 use lib.ListN.{length, take, getD}
-use lib.Seq.{take-suc, take-all}
+use lib.Seq.{take-all}
 use Rattle.sheet.specs.Allowed.{All}
-use Rattle.ensemble_score.specs.Score.{blank, listed}
+use Rattle.ensemble_score.specs.Score.{entryIn, listed}
 use Rattle.ensemble_score.specs.declared.Entry.{Entry}
-use Rattle.ensemble_score.specs.declared.Score.{Score}
-use Rattle.ensemble_score.proofs.ScoreLaws.{listed-length, listed-entry}
+use Rattle.ensemble_score.proofs.ScoreLaws.{taken-next}
 use Rattle.ensemble_block.specs.Stretch.{Calm, StretchTo, cutAt}
 
 -- ---- an event
@@ -63,22 +61,22 @@ all-at P (a ∷ as′) (suc i) d all h = all-at P as′ i d (all .1) (le-of-suc-
 pub stretch-none : (at end next : ℕ) → at < end → next ≡ min end (at + 256) → StretchTo [] at end next
 stretch-none at end next some is = record { some = omega arith; within = omega arith; short = omega arith; calm = tt }
 
-module _ (score : Score) (long : length (score .entries) ≡ 16) (few : score .count ≤ 16) (at end : ℕ) where
-  pub stretch-more : (i next next′ : ℕ) (e : Entry) → i < score .count → e ≡ getD (score .entries) i blank → next′ ≡ cutAt at (cutAt at next (e .start)) (e .«key_up»)
-      → StretchTo (take i (listed score)) at end next → StretchTo (take (i + 1) (listed score)) at end next′
-  stretch-more i next next′ e there is cut s =
-      let within : i < length (listed score) = omega (arith, listed-length score long few) in
-      let one-more : take (i + 1) (listed score) ≡ take i (listed score) ++ (e ∷ []) = rw (add-one i, is, take-suc (listed score) i blank within, listed-entry score i there) in
-      let a = cut-is at next (e .start) (s .some) in
-      let b = cut-is at (cutAt at next (e .start)) (e .«key_up») (a .0) in
-      let sooner : next′ ≤ next = omega (arith, a .1, b .1, cut) in
-      let here : Calm at next′ e = record { starts = λ h. omega (arith, a .2 h, b .1, cut); comes-up = λ h. omega (arith, b .2 h, cut) } in
-      record {
-        some = omega (arith, b .0, cut);
-        within = omega (arith, s .within);
-        short = omega (arith, s .short);
-        calm = rw one-more (all-more (Calm at next′) (take i (listed score)) e (all-before at next next′ (take i (listed score)) sooner (s .calm)) here);
-      }
+pub stretch-all : (score : List Entry) (at end i next : ℕ) → length score ≤ i → StretchTo (take i score) at end next → StretchTo score at end next
+stretch-all score at end i next h s = rw (take-all i score h) at s
 
-  pub stretch-all : (i next : ℕ) → score .count ≤ i → StretchTo (take i (listed score)) at end next → StretchTo (listed score) at end next
-  stretch-all i next h s = rw (take-all i (listed score) (omega (arith, listed-length score long few))) at s
+pub stretch-more : (count : ℕ) (numbers : List ℕ) (at end i next next′ : ℕ) (e : Entry) → i < count → e ≡ entryIn numbers i
+    → next′ ≡ cutAt at (cutAt at next (e .start)) (e .«key_up»)
+    → StretchTo (take i (listed count numbers)) at end next → StretchTo (take (i + 1) (listed count numbers)) at end next′
+stretch-more count numbers at end i next next′ e there is cut s =
+    let seen = take i (listed count numbers) in
+    let one-more : take (i + 1) (listed count numbers) ≡ seen ++ (e ∷ []) = rw is (taken-next numbers count i there) in
+    let a = cut-is at next (e .start) (s .some) in
+    let b = cut-is at (cutAt at next (e .start)) (e .«key_up») (a .0) in
+    let sooner : next′ ≤ next = omega (arith, a .1, b .1, cut) in
+    let here : Calm at next′ e = record { starts = λ h. omega (arith, a .2 h, b .1, cut); comes-up = λ h. omega (arith, b .2 h, cut) } in
+    record {
+      some = omega (arith, b .0, cut);
+      within = omega (arith, s .within);
+      short = omega (arith, s .short);
+      calm = rw one-more (all-more (Calm at next′) seen e (all-before at next next′ seen sooner (s .calm)) here);
+    }

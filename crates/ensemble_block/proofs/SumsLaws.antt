@@ -1,17 +1,17 @@
 -- The sums of a stretch, entry by entry from the last to the first, and held.
 --     Summed                                       what the sums are once some entries are added, and how large
 --     summed-none, summed-more, summed-held        before any entry, one more, and held
+--     summed-length                                how many there are
 --     Added                                        the entries of a score from a place on are added
 --     added-start, added-more, added-held          before any entry, one more, and all of them, held: the mixed frames
 --     entry-ready                                  what the next entry asks
 -- Assumes nothing.
-use Prim.Native.Nat.{ℕ, suc, _+_, _-_, _*_, _/_, _≤_, _<_, _^_}
+use Prim.Native.Nat.{ℕ, _+_, _-_, _*_, _/_, _≤_, _<_, _^_}
 use mathlib.Core.List.{List, [], _∷_, map}
 use mathlib.Core.Path.{_≡_, sym, ap, subst, _∙_}
 use native.Mathlib.Omega.{arith}
 use lib.IntN.{ℤ, pos}
-use lib.ListN.{length, drop, getD, replicate, length-drop, drop-of-length-le}
-use lib.Seq.{drop-cons}
+use lib.ListN.{length, drop, getD, replicate, length-drop}
 use Rattle.sheet.specs.Read.{readSheet}
 use Rattle.sheet.specs.Voice.{Voice}
 use Rattle.sheet_layout.specs.declared.Layout.{Layout}
@@ -19,10 +19,9 @@ use Rattle.body_read.specs.Sides.{Sides}
 use Rattle.note_frame.specs.Frames.{framesFrom, interleaved}
 use Rattle.note_frame.specs.declared.chain.Frame.{Frame}
 use Rattle.note_frame.proofs.FramesLaws.{frames-same, frames-silent, interleaved-frames, interleaved-silent}
-use Rattle.ensemble_score.specs.Score.{blank, listed}
+use Rattle.ensemble_score.specs.Score.{blank, entryIn, listed}
 use Rattle.ensemble_score.specs.declared.Entry.{Entry}
-use Rattle.ensemble_score.specs.declared.Score.{Score}
-use Rattle.ensemble_score.proofs.ScoreLaws.{listed-length, listed-entry}
+use Rattle.ensemble_score.proofs.ScoreLaws.{listed-length, listed-entry, left-next, left-none}
 use Rattle.ensemble_sums.specs.Sums.{heldTo16, plus, Within}
 use Rattle.ensemble_sums.proofs.SumLaws.{within-more, within-zeros}
 use Rattle.ensemble_block.specs.Mixed.{entryFrame, together, allTogether, heldFrame, mixedFrame}
@@ -70,44 +69,45 @@ module _ (v : Voice) (s : Sides) (rate at d : ℕ) where
       ap (map heldTo16) (g .sums-are) ∙ held-frames all at d ∙ ap interleaved mixed
 
 -- the entries of a score from i on are added
-module _ (score : Score) (rate at : ℕ) (sheet : List ℕ) (l : Layout) (left right sums₀ out₀ : List ℤ) (long : length (score .entries) ≡ 16)
-    (ready : StretchReady score rate at sheet l left right sums₀ out₀) where
+module _ (count : ℕ) (numbers : List ℕ) (rate at : ℕ) (sheet : List ℕ) (l : Layout) (left right sums₀ out₀ : List ℤ)
+    (ready : StretchReady (listed count numbers) rate at sheet l left right sums₀ out₀) where
+  -- its entries
+  abbrev score : List Entry
+  score = listed count numbers
+
   abbrev pub Added : ℕ → List ℤ → Type 0
-  Added i sums = Summed (readSheet sheet) (record { left = left; right = right }) rate at (length out₀ / 2) (drop i (listed score)) sums
+  Added i sums = Summed (readSheet sheet) (record { left = left; right = right }) rate at (length out₀ / 2) (drop i score) sums
 
-  all : length (listed score) ≡ score .count
-  all = listed-length score long (ready .mixable .count-small)
-
-  pub added-start : Added (score .count) sums₀
+  pub added-start : Added count sums₀
   added-start =
-      let none : drop (score .count) (listed score) ≡ [] = drop-of-length-le (listed score) {i = score .count} (omega (arith, all)) in
-      rw none (summed-none (readSheet sheet) (record { left = left; right = right }) rate at (length out₀ / 2) (length out₀) sums₀ (ready .none-yet) (omega (arith, ready .even)))
+      rw (left-none numbers count count (omega arith))
+      (summed-none (readSheet sheet) (record { left = left; right = right }) rate at (length out₀ / 2) (length out₀) sums₀ (ready .none-yet) (omega (arith, ready .even)))
 
-  pub added-held : (i : ℕ) (sums : List ℤ) → i ≤ 0 → Added i sums → map heldTo16 sums ≡ interleaved (framesFrom (mixedFrame (readSheet sheet) (record { left = left; right = right }) rate (listed score)) at (length out₀ / 2))
+  pub added-held : (i : ℕ) (sums : List ℤ) → i ≤ 0 → Added i sums → map heldTo16 sums ≡ interleaved (framesFrom (mixedFrame (readSheet sheet) (record { left = left; right = right }) rate score) at (length out₀ / 2))
   added-held i sums end g =
       let first : i ≡ 0 = omega arith in
-      let whole : drop i (listed score) ≡ listed score = ap (λ (n : ℕ). drop n (listed score)) first in
-      summed-held (readSheet sheet) (record { left = left; right = right }) rate at (length out₀ / 2) (listed score) sums (ready .in-time) (rw whole at g)
+      let whole : drop i score ≡ score = ap (λ (n : ℕ). drop n score) first in
+      summed-held (readSheet sheet) (record { left = left; right = right }) rate at (length out₀ / 2) score sums (ready .in-time) (rw whole at g)
 
-  module _ (i : ℕ) (e : Entry) (some : 0 < i) (within : i ≤ score .count) (is : e ≡ getD (score .entries) (i - 1) blank) where
-    entry-is : getD (listed score) (i - 1) blank ≡ e
-    entry-is = listed-entry score (i - 1) (omega arith) ∙ sym is
+  module _ (i : ℕ) (e : Entry) (some : 0 < i) (within : i ≤ count) (is : e ≡ entryIn numbers (i - 1)) where
+    entry-is : getD score (i - 1) blank ≡ e
+    entry-is = listed-entry numbers count (i - 1) (omega arith) ∙ sym is
 
     -- it, and those past it
-    entry-first : drop (i - 1) (listed score) ≡ e ∷ drop i (listed score)
+    entry-first : drop (i - 1) score ≡ e ∷ drop i score
     entry-first =
-        let next : suc (i - 1) ≡ i = omega arith in
-        drop-cons (listed score) (i - 1) blank (omega (arith, all)) ∙ rw (entry-is, next)
+        let next : i - 1 + 1 ≡ i = omega arith in
+        left-next numbers count (i - 1) (omega arith) ∙ rw (is, next)
 
     -- what it asks
-    pub entry-ready : (sums out : List ℤ) → length out ≡ length out₀ → Added i sums → EntryReady e rate at sheet l left right sums out
-    entry-ready sums out same g =
+    pub entry-ready : (sums out : List ℤ) → count ≤ 16 → length out ≡ length out₀ → Added i sums → EntryReady e rate at sheet l left right sums out
+    entry-ready sums out small same g =
         let m = ready .mixable in
-        let there : i - 1 < length (listed score) = omega (arith, all) in
-        let good = all-at (GoodEntry (readSheet sheet) rate) (listed score) (i - 1) blank (m .entries-good) there in
-        let calm = all-at (Calm at (at + length out₀ / 2)) (listed score) (i - 1) blank (ready .calm) there in
-        let count = summed-length (readSheet sheet) (record { left = left; right = right }) rate at (length out₀ / 2) (drop i (listed score)) sums g in
-        let few : 32768 * length (drop i (listed score)) ≤ 2 ^ 30 = omega (arith, length-drop i (listed score), all, m .count-small) in
+        let there : i - 1 < length score = omega (arith, listed-length numbers count) in
+        let good = all-at (GoodEntry (readSheet sheet) rate) score (i - 1) blank (m .entries-good) there in
+        let calm = all-at (Calm at (at + length out₀ / 2)) score (i - 1) blank (ready .calm) there in
+        let many = summed-length (readSheet sheet) (record { left = left; right = right }) rate at (length out₀ / 2) (drop i score) sums g in
+        let few : 32768 * length (drop i score) ≤ 2 ^ 30 = omega (arith, length-drop i score, listed-length numbers count) in
         record {
           sound = m .sound;
           layout-is = m .layout-is;
@@ -118,11 +118,11 @@ module _ (score : Score) (rate at : ℕ) (sheet : List ℕ) (l : Layout) (left r
           in-time = rw same (ready .in-time);
           even = rw same (ready .even);
           as-many = omega (arith, ready .even);
-          small = within-more (32768 * length (drop i (listed score))) (2 ^ 30) sums few (g .small);
+          small = within-more (32768 * length (drop i score)) (2 ^ 30) sums few (g .small);
         }
 
     pub added-more : (sums sums′ out : List ℤ) → length out ≡ length out₀
         → sums′ ≡ plus (interleaved (framesFrom (λ m. entryFrame (readSheet sheet) (record { left = left; right = right }) rate m e) at (length out / 2))) sums
         → ((b : ℕ) → Within b sums → Within (b + 32768) sums′) → Added i sums → Added (i - 1) sums′
     added-more sums sums′ out same sum grows g =
-        rw entry-first (summed-more (readSheet sheet) (record { left = left; right = right }) rate at (length out₀ / 2) e (drop i (listed score)) sums sums′ (rw same at sum) grows g)
+        rw entry-first (summed-more (readSheet sheet) (record { left = left; right = right }) rate at (length out₀ / 2) e (drop i score) sums sums′ (rw same at sum) grows g)

@@ -20,9 +20,7 @@ use Rattle.note_rules.specs.Rules.{sequenceRules}
 use Rattle.note_frame.specs.declared.playing.Key.{Key}
 use Rattle.note_frame.specs.declared.playing.Key.the-variants.{Held, Released}
 use Rattle.note_frame.specs.declared.playing.Playing.{Playing}
-use Rattle.ensemble_score.specs.Score.{listed}
 use Rattle.ensemble_score.specs.declared.Entry.{Entry}
-use Rattle.ensemble_score.specs.declared.Score.{Score}
 use Rattle.ensemble_rules.specs.Rules.{entryRules}
 use Rattle.ensemble_sums.specs.Sums.{Within}
 
@@ -62,18 +60,17 @@ pub record GoodEntry (v : Voice) (rate : ℕ) (e : Entry) : Type 0 where
   pub no-rule : NoneHolds (entryRules v rate e)
 
 -- sheet, sides and a score that no rule turns back
-pub record Mixable (score : Score) (rate : ℕ) (sheet : List ℕ) (l : Layout) (left right : List ℤ) : Type 0 where
+pub record Mixable (score : List Entry) (rate : ℕ) (sheet : List ℕ) (l : Layout) (left right : List ℤ) : Type 0 where
   pub sound : judged sheet ≡ Sound
   pub layout-is : l ≡ layoutOf (readSheet sheet)
   pub voice-good : NoneHolds (voiceRules (readSheet sheet) (length left) (length right))
   pub sequence-good : NoneHolds (sequenceRules (readSheet sheet))
-  pub count-small : score .count ≤ 16
-  pub entries-good : All (GoodEntry (readSheet sheet) rate) (listed score)
+  pub entries-good : All (GoodEntry (readSheet sheet) rate) score
 
--- what a stretch from mixed frame `at` on asks: it is calm, ends before frame 4,294,967,296, and the sums, as many as places, are 0
-pub record StretchReady (score : Score) (rate at : ℕ) (sheet : List ℕ) (l : Layout) (left right sums out : List ℤ) : Type 0 where
+-- what a stretch from mixed frame `at` on asks: it is calm, has no frame from 4,294,967,295 on, and the sums, as many as places, are 0
+pub record StretchReady (score : List Entry) (rate at : ℕ) (sheet : List ℕ) (l : Layout) (left right sums out : List ℤ) : Type 0 where
   pub mixable : Mixable score rate sheet l left right
-  pub calm : All (Calm at (at + length out / 2)) (listed score)
+  pub calm : All (Calm at (at + length out / 2)) score
   pub in-time : at + length out / 2 ≤ 4294967295
   pub even : length out % 2 ≡ 0
   pub none-yet : sums ≡ replicate (length out) (pos 0)

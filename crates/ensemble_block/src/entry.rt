@@ -6,11 +6,8 @@ use note_frame::Key;
 use note_frame::Playing;
 use sheet_layout::Layout;
 ghost use mathlib.Core.Path.{_≡_};
-ghost use Prim.Native.Nat.{ℕ, _+_, _/_, _≤_, _<_};
-ghost use lib.IntN.{pos};
-ghost use lib.ListN.{length, getD};
-ghost use mir.Syntax.{w16};
-ghost use mir.Val.{SFits};
+ghost use Prim.Native.Nat.{ℕ, _+_, _/_, _≤_};
+ghost use lib.ListN.{length};
 ghost use Rattle.sheet.specs.Read.{readSheet};
 ghost use Rattle.note_frame.specs.Frames.{framesFrom, interleaved};
 ghost use Rattle.ensemble_block.specs.Mixed.{entryFrame};
@@ -26,19 +23,6 @@ fn key_at(e: Entry, at: usize) -> Key
         return Key::Released(e.key_up - e.start);
     }
     Key::Held
-}
-
-// Reads the first n values and does nothing with them: what was read is known to fit 16 bits, which a lent buffer by itself doesn't tell. A
-// compiled program has no trace of it.
-fn read_values(values: &[i16], n: usize)
-    requires { ⌜ n ≤ length (now values) ⌝ }
-    ensures { λ _. ⌜ ((i : ℕ) → i < n → SFits w16 (getD (now (values .entry)) i (pos 0))) ⌝ }
-{
-    let mut i = 0;
-    while i < n {
-        let value = values[i];
-        i += 1;
-    }
 }
 
 // Adds what an entry gives to a stretch from mixed frame `at` on. `out` serves as room for its note's block; an entry that hasn't started, or
@@ -72,6 +56,5 @@ pub(crate) fn add_entry(
     };
     let count = sounding_block(playing, frames as u32, sheet, l, left, right, out);
     let values = 2 * count;
-    read_values(out, values);
     add_values(out, values, sums);
 }

@@ -1,6 +1,5 @@
 // Stretches: where one ends, and its frames.
 use crate::entry::add_entry;
-use ensemble_score::Score;
 use ensemble_score::nth_entry;
 use ensemble_sums::put_held;
 use note_block::least;
@@ -27,14 +26,14 @@ fn cut_at(at: usize, end: usize, event: u32) -> usize
 }
 
 // The end of the stretch from mixed frame `at` on.
-pub(crate) fn stretch_end(score: Score, at: usize, end: usize) -> usize
-    requires { ⌜ (at < end) × (end < 2 ^ 32) × (score .count ≤ 16) ⌝ }
-    ensures { λ r. ⌜ StretchTo (listed score) at end r ⌝ }
+pub(crate) fn stretch_end(count: usize, numbers: &[u32; 80], at: usize, end: usize) -> usize
+    requires { ⌜ (at < end) × (end < 2 ^ 32) × (count ≤ 16) ⌝ }
+    ensures { λ r. ⌜ StretchTo (listed count (now (numbers .entry))) at end r ⌝ }
 {
     let mut next = least(end, at + 256);
     let mut i = 0;
-    while i < score.count {
-        let e = nth_entry(score, i);
+    while i < count {
+        let e = nth_entry(numbers, i);
         let before_start = cut_at(at, next, e.start);
         next = cut_at(at, before_start, e.key_up);
         i += 1;
@@ -44,7 +43,8 @@ pub(crate) fn stretch_end(score: Score, at: usize, end: usize) -> usize
 
 // The mixed frames of a stretch. The sums are 0 before and after.
 pub(crate) fn mix_stretch(
-    score: Score,
+    count: usize,
+    numbers: &[u32; 80],
     rate: u32,
     at: usize,
     sheet: &[u8],
@@ -54,14 +54,14 @@ pub(crate) fn mix_stretch(
     sums: &mut [i32],
     out: &mut [i16],
 )
-    requires { ⌜ StretchReady score rate at (now sheet) l (now left) (now right) (now sums) (now out) ⌝ }
-    ensures out { λ _. ⌜ now (out .exit) ≡ interleaved (framesFrom (mixedFrame (readSheet (now (sheet .entry))) (record { left = now (left .entry); right = now (right .entry) }) rate (listed score)) at (length (now (out .entry)) / 2)) ⌝ }
+    requires { ⌜ StretchReady (listed count (now numbers)) rate at (now sheet) l (now left) (now right) (now sums) (now out) × (count ≤ 16) ⌝ }
+    ensures out { λ _. ⌜ now (out .exit) ≡ interleaved (framesFrom (mixedFrame (readSheet (now (sheet .entry))) (record { left = now (left .entry); right = now (right .entry) }) rate (listed count (now (numbers .entry)))) at (length (now (out .entry)) / 2)) ⌝ }
     ensures sums { λ _. ⌜ now (sums .exit) ≡ replicate (length (now (sums .entry))) (pos 0) ⌝ }
 {
-    let mut i = score.count;
+    let mut i = count;
     while 0 < i {
         i -= 1;
-        let e = nth_entry(score, i);
+        let e = nth_entry(numbers, i);
         add_entry(e, rate, at, sheet, l, left, right, sums, out);
     }
     put_held(sums, out);

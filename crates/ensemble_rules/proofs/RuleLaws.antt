@@ -1,5 +1,4 @@
 -- The rules of a mix, by their parts and entry by entry.
---     left-next, left-none                           the entries that a loop over a score has left
 --     order-is, entries-are                          the rules of a score that has a first entry; order-none, entries-none of one that has none
 --     held-first                                     the first that holds of a note that begins and is held: no key-up is ahead
 --     numbered-join, none-join                       of two lists joined
@@ -12,16 +11,14 @@
 --     score-small, score-ends                        what the score's own rules leave: at most sixteen entries, no key-up before its start
 --     mix-numbers                                    the numbers, in the order in which they are judged
 -- Assumes nothing.
-use Prim.Native.Nat.{ℕ, _+_, _≤_, _<_}
+use Prim.Native.Nat.{ℕ, _≤_}
 use mathlib.Core.Bool.{not}
 use mathlib.Core.List.{List, [], _∷_, _++_, map-append}
 use mathlib.Core.Path.{_≡_, refl, sym, ap, ap₂, subst, _∙_}
-use native.Mathlib.Numerals.{add-one}
 use native.Mathlib.Omega.{arith}
 use borrow.Author.Tests.{ltb-false}
 use lib.Dec.{ltb}
-use lib.ListN.{length, drop, getD, drop-of-length-le}
-use lib.Seq.{drop-cons}
+use lib.ListN.{length}
 use Rattle.refusal.specs.Numbers.{noOctave, startOrder, earlyKeyUp}
 use Rattle.refusal.specs.Rules.{Rule, rule, firstHolding, numbersOf, Holds, NoneHolds}
 use Rattle.refusal.proofs.RuleLaws.{Numbered, numbered-by, first-join, first-stands, none-parts}
@@ -32,22 +29,8 @@ use Rattle.sheet.specs.Voice.{Voice}
 use Rattle.note_frame.specs.declared.playing.Key.the-variants.{Held}
 use Rattle.voice_rules.specs.Rules.{voiceRules}
 use Rattle.note_rules.specs.Rules.{sequenceRules, placeRules, speedRules, velocityRules, noteRules}
-use Rattle.ensemble_score.specs.Score.{blank, listed}
 use Rattle.ensemble_score.specs.declared.Entry.{Entry}
-use Rattle.ensemble_score.specs.declared.Score.{Score}
-use Rattle.ensemble_score.proofs.ScoreLaws.{listed-length, listed-entry}
 use Rattle.ensemble_rules.specs.Rules.{orderRules, scoreRules, entryRules, entriesRules, playRules, mixRules, orderNumbers, entryNumbers}
-
--- ---- the entries left
-
-module _ (s : Score) (all : length (s .entries) ≡ 16) (few : s .count ≤ 16) (i : ℕ) where
-  pub left-next : i < s .count → (e : Entry) → e ≡ getD (s .entries) i blank → drop i (listed s) ≡ e ∷ drop (i + 1) (listed s)
-  left-next there e is =
-      let within : i < length (listed s) = omega (arith, listed-length s all few) in
-      rw (add-one, is, ← listed-entry s i there) (drop-cons (listed s) i blank within)
-
-  pub left-none : s .count ≤ i → drop i (listed s) ≡ []
-  left-none past = drop-of-length-le (listed s) {i = i} (omega (arith, listed-length s all few))
 
 -- ---- a score that has a first entry, or none
 

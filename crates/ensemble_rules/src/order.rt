@@ -1,15 +1,13 @@
 // 46, 45 and 47: the score by itself.
 use ensemble_score::Entry;
-use ensemble_score::Score;
 use ensemble_score::nth_entry;
 ghost use mathlib.Core.Path.{_≡_};
-ghost use mathlib.Core.List.{List, [], _∷_};
+ghost use mathlib.Core.List.{[], _∷_};
 ghost use Prim.Native.Nat.{_≤_};
 ghost use lib.Dec.{ltb};
 ghost use Rattle.refusal.specs.Numbers.{startOrder, earlyKeyUp};
 ghost use Rattle.refusal.specs.Rules.{rule, firstHolding};
-ghost use Rattle.ensemble_score.specs.Score.{listed, TakenFrom};
-ghost use Rattle.ensemble_score.specs.declared.Entry.{Entry};
+ghost use Rattle.ensemble_score.specs.Score.{listed};
 ghost use Rattle.ensemble_rules.specs.Rules.{orderRules, scoreRules};
 
 // 45 and 47 of an entry after one that starts at frame `before`, or 0.
@@ -26,14 +24,14 @@ fn entry_order(before: u32, e: Entry) -> u8
 }
 
 // The first entry's number that is turned back so, or 0.
-fn order_refusal(s: Score) -> u8
-    requires { ⌜ s .count ≤ 16 ⌝ }
-    ensures { λ r. ⌜ r ≡ firstHolding (orderRules 0 (listed s)) ⌝ }
+fn order_refusal(count: usize, numbers: &[u32; 80]) -> u8
+    requires { ⌜ count ≤ 16 ⌝ }
+    ensures { λ r. ⌜ r ≡ firstHolding (orderRules 0 (listed count (now (numbers .entry)))) ⌝ }
 {
     let mut before: u32 = 0;
     let mut i = 0;
-    while i < s.count {
-        let e = nth_entry(s, i);
+    while i < count {
+        let e = nth_entry(numbers, i);
         let number = entry_order(before, e);
         if number != 0 {
             return number;
@@ -44,13 +42,12 @@ fn order_refusal(s: Score) -> u8
     0
 }
 
-// 46, 45 and 47, or 0.
-pub fn score_refusal(s: Score) -> u8
-    ensures result { λ r. ⌜ ((score : List Entry) → TakenFrom score s → r ≡ firstHolding (scoreRules score)) ⌝ }
-    ensures few { λ r. ⌜ (r ≡ 0 → s .count ≤ 16) ⌝ }
+// 46, 45 and 47, or 0, of a score that was taken over.
+pub fn score_refusal(count: usize, numbers: &[u32; 80]) -> u8
+    ensures { λ r. ⌜ r ≡ firstHolding (scoreRules (listed count (now (numbers .entry)))) ⌝ }
 {
-    if 16 < s.count {
+    if 16 < count {
         return refusal::ENTRY_COUNT;
     }
-    order_refusal(s)
+    order_refusal(count, numbers)
 }

@@ -1,6 +1,5 @@
 // 10, 13, 18, 21 to 23, 25, and entry by entry 24, 31 to 33 and 44: the voice, the buffer's places, and the entries on that voice.
 use ensemble_score::Entry;
-use ensemble_score::Score;
 use ensemble_score::nth_entry;
 use note_frame::Key;
 use note_frame::Playing;
@@ -42,13 +41,13 @@ fn entry_refusal(sheet: &[u8], l: Layout, e: Entry, rate: u32) -> u8
 }
 
 // The first entry's number that is turned back so, or 0.
-fn entries_refusal(sheet: &[u8], l: Layout, s: Score, rate: u32) -> u8
-    requires { ⌜ (judged (now sheet) ≡ Sound) × (l ≡ layoutOf (readSheet (now sheet))) × (s .count ≤ 16) ⌝ }
-    ensures { λ r. ⌜ r ≡ firstHolding (entriesRules (readSheet (now (sheet .entry))) rate (listed s)) ⌝ }
+fn entries_refusal(sheet: &[u8], l: Layout, count: usize, numbers: &[u32; 80], rate: u32) -> u8
+    requires { ⌜ (judged (now sheet) ≡ Sound) × (l ≡ layoutOf (readSheet (now sheet))) × (count ≤ 16) ⌝ }
+    ensures { λ r. ⌜ r ≡ firstHolding (entriesRules (readSheet (now (sheet .entry))) rate (listed count (now (numbers .entry)))) ⌝ }
 {
     let mut i = 0;
-    while i < s.count {
-        let e = nth_entry(s, i);
+    while i < count {
+        let e = nth_entry(numbers, i);
         let number = entry_refusal(sheet, l, e, rate);
         if number != 0 {
             return number;
@@ -64,12 +63,13 @@ pub fn play_refusal(
     l: Layout,
     left: usize,
     right: usize,
-    s: Score,
+    count: usize,
+    numbers: &[u32; 80],
     rate: u32,
     places: usize,
 ) -> u8
-    requires { ⌜ (judged (now sheet) ≡ Sound) × (l ≡ layoutOf (readSheet (now sheet))) × (s .count ≤ 16) ⌝ }
-    ensures { λ r. ⌜ r ≡ firstHolding (playRules (readSheet (now (sheet .entry))) left right (listed s) rate places) ⌝ }
+    requires { ⌜ (judged (now sheet) ≡ Sound) × (l ≡ layoutOf (readSheet (now sheet))) × (count ≤ 16) ⌝ }
+    ensures { λ r. ⌜ r ≡ firstHolding (playRules (readSheet (now (sheet .entry))) left right (listed count (now (numbers .entry))) rate places) ⌝ }
 {
     let of_voice = voice_refusal(sheet, left, right);
     if of_voice != 0 {
@@ -83,5 +83,5 @@ pub fn play_refusal(
     if of_places != 0 {
         return of_places;
     }
-    entries_refusal(sheet, l, s, rate)
+    entries_refusal(sheet, l, count, numbers, rate)
 }

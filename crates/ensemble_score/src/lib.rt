@@ -3,7 +3,7 @@ ghost use mathlib.Core.Path.{_≡_};
 ghost use mathlib.Core.List.{List};
 ghost use Prim.Native.Nat.{_+_, _≤_, _<_};
 ghost use lib.ListN.{length, getD};
-ghost use Rattle.ensemble_score.specs.Score.{blank, FourFrom, TakenFrom};
+ghost use Rattle.ensemble_score.specs.Score.{blank, entryIn, EntryPut, FourFrom, FourPut, TakenFrom};
 ghost use Rattle.ensemble_score.specs.declared.Entry.{Entry};
 
 // A timed note: the mixed frames at which it starts and at which its key comes up; its step, octave and velocity. The order of the fields is
@@ -25,10 +25,11 @@ struct Four {
     fourth: Entry,
 }
 
-// A score taken over from a slice: its length, and its first sixteen entries, with blank ones where it has fewer.
+// A score taken over from a slice: its length, and five numbers for each of its first sixteen entries (start, key-up, step, octave, velocity),
+// zeros where it has fewer. Numbers can be lent to covered code; an array of structs would be copied for each look at it.
 pub struct Score {
     pub count: usize,
-    pub entries: [Entry; 16],
+    pub numbers: [u32; 80],
 }
 
 fn entry_count(score: &[Entry]) -> usize
@@ -70,45 +71,48 @@ fn four_from(score: &[Entry], i: usize) -> Four
     }
 }
 
-// The sixteen entries of four times four.
+// The numbers of an entry, at its five places.
+fn put_entry(numbers: &mut [u32], i: usize, e: Entry)
+    requires { ⌜ (length (now numbers) ≡ 80) × (i < 16) ⌝ }
+    ensures { λ _. ⌜ EntryPut (now (numbers .entry)) i e (now (numbers .exit)) ⌝ }
+{
+    let at = 5 * i;
+    let second = at + 1;
+    let third = at + 2;
+    let fourth = at + 3;
+    let fifth = at + 4;
+    numbers[at] = e.start;
+    numbers[second] = e.key_up;
+    numbers[third] = e.step;
+    numbers[fourth] = e.octave as u32;
+    numbers[fifth] = e.velocity as u32;
+}
+
+// The numbers of four entries in a row.
+fn put_four(numbers: &mut [u32], i: usize, f: Four)
+    requires { ⌜ (length (now numbers) ≡ 80) × (i ≤ 12) ⌝ }
+    ensures { λ _. ⌜ FourPut (now (numbers .entry)) i f (now (numbers .exit)) ⌝ }
+{
+    let first = f.first;
+    let second = f.second;
+    let third = f.third;
+    let fourth = f.fourth;
+    put_entry(numbers, i, first);
+    put_entry(numbers, i + 1, second);
+    put_entry(numbers, i + 2, third);
+    put_entry(numbers, i + 3, fourth);
+}
+
+// The numbers of sixteen entries.
 fn score_by(count: usize, a: Four, b: Four, c: Four, d: Four) -> Score
     ensures { λ r. ⌜ ((score : List Entry) → count ≡ length score → FourFrom score 0 a → FourFrom score 4 b → FourFrom score 8 c → FourFrom score 12 d → TakenFrom score r) ⌝ }
 {
-    let a0 = a.first;
-    let a1 = a.second;
-    let a2 = a.third;
-    let a3 = a.fourth;
-    let b0 = b.first;
-    let b1 = b.second;
-    let b2 = b.third;
-    let b3 = b.fourth;
-    let c0 = c.first;
-    let c1 = c.second;
-    let c2 = c.third;
-    let c3 = c.fourth;
-    let d0 = d.first;
-    let d1 = d.second;
-    let d2 = d.third;
-    let d3 = d.fourth;
-    let entries = [
-        a0,
-        a1,
-        a2,
-        a3,
-        b0,
-        b1,
-        b2,
-        b3,
-        c0,
-        c1,
-        c2,
-        c3,
-        d0,
-        d1,
-        d2,
-        d3,
-    ];
-    Score { count, entries }
+    let mut numbers = [0u32; 80];
+    put_four(&mut numbers, 0, a);
+    put_four(&mut numbers, 4, b);
+    put_four(&mut numbers, 8, c);
+    put_four(&mut numbers, 12, d);
+    Score { count, numbers }
 }
 
 // The score of a lent slice, by value.
@@ -123,11 +127,26 @@ pub fn score_of(score: &[Entry]) -> Score
     score_by(count, a, b, c, d)
 }
 
-// One of the sixteen.
-pub fn nth_entry(s: Score, i: usize) -> Entry
+// The entry at a place of a score's numbers.
+pub fn nth_entry(numbers: &[u32; 80], i: usize) -> Entry
     requires { ⌜ i < 16 ⌝ }
-    ensures { λ r. ⌜ r ≡ getD (s .entries) i blank ⌝ }
+    ensures { λ r. ⌜ r ≡ entryIn (now (numbers .entry)) i ⌝ }
 {
-    let entries = s.entries;
-    entries[i]
+    let at = 5 * i;
+    let second = at + 1;
+    let third = at + 2;
+    let fourth = at + 3;
+    let fifth = at + 4;
+    let start = numbers[at];
+    let key_up = numbers[second];
+    let step = numbers[third];
+    let octave = numbers[fourth] % 256;
+    let velocity = numbers[fifth] % 256;
+    Entry {
+        start,
+        key_up,
+        step,
+        octave: octave as u8,
+        velocity: velocity as u8,
+    }
 }

@@ -4,7 +4,7 @@
 --     plus-join, plus-zeros, added-zeros             sums of two parts, of zeros and values, and of values followed by zeros
 --     left-at, all-written                           a buffer written from its front: what is not reached yet, and what it holds in the end
 --     within-at, within-more, within-zeros           one number of those within a bound, a larger bound, and zeros
---     within-plus, within-added                      the bound of sums
+--     added-within, within-set                       the bound of a sum that a value is added to, and a store within it
 --     held-parts, held-same, held-zero               a held number by its parts; a number that fits 16 bits is held as it is
 -- Assumes nothing.
 use Prim.Native.Nat.{ℕ, zero, suc, _+_, _-_, _≤_, _<_, min}
@@ -12,7 +12,7 @@ use mathlib.Core.List.{List, [], _∷_, _++_, append-nil}
 use mathlib.Core.Path.{_≡_, refl, sym, ap, _∙_}
 use native.Mathlib.Omega.{arith}
 use lib.IntN.{ℤ, pos, negsuc, natAbs, _+ℤ_, +ℤ-idl}
-use lib.ListN.{length, take, drop, getD, replicate, take-append-drop, length-take, length-drop, drop-of-length-le}
+use lib.ListN.{length, take, drop, getD, set, replicate, take-append-drop, length-take, length-drop, drop-of-length-le}
 use lib.Seq.{drop-cons, getD-at, take-at, take-all, length-take-le}
 use mir.Syntax.{w16}
 use mir.Val.{SFits}
@@ -99,26 +99,19 @@ within-zeros b (suc n) = (omega arith, within-zeros b n)
 sum-within : (b c : ℕ) (x y : ℤ) → natAbs x ≤ b → natAbs y ≤ c → natAbs (x +ℤ y) ≤ b + c
 sum-within b c x y h k = omega (zarith, abs-parts x, abs-parts y, abs-parts (x +ℤ y), sum x y)
 
-pub within-plus : (b c : ℕ) (xs ys : List ℤ) → length xs ≡ length ys → Within b xs → Within c ys → Within (b + c) (plus xs ys)
-unfolding plus
-within-plus b c [] ys e h k = tt
-within-plus b c (x ∷ xs) [] e h k = tt
-within-plus b c (x ∷ xs) (y ∷ ys) e h k = (sum-within b c x y (h .0) (k .0), within-plus b c xs ys (omega arith) (h .1) (k .1))
-
 -- a value of 16 bits
 abs-fits : (x : ℤ) → SFits w16 x → natAbs x ≤ 32768
 abs-fits x f = omega (zarith, known f, abs-parts x)
 
-pub within-added :
-    (b n : ℕ) (values sums : List ℤ) → n ≤ length values → n ≤ length sums → ((i : ℕ) → SFits w16 (getD values i (pos 0))) → Within b sums →
-    Within (b + 32768) (addedTo sums n values)
-unfolding plus
-within-added b zero values sums hv hs f h = within-more b (b + 32768) sums (omega arith) h
-within-added b (suc n) [] sums hv hs f h = absurd (omega arith)
-within-added b (suc n) (x ∷ values) [] hv hs f h = absurd (omega arith)
-within-added b (suc n) (x ∷ values) (y ∷ sums) hv hs f h =
-    let here : natAbs (x +ℤ y) ≤ b + 32768 = omega (arith, sum-within 32768 b x y (abs-fits x (f 0)) (h .0)) in
-    (here, within-added b n values sums (omega arith) (omega arith) (λ i. f (suc i)) (h .1))
+-- a value of 16 bits added to a sum
+pub added-within : (b : ℕ) (x y : ℤ) → SFits w16 x → natAbs y ≤ b → natAbs (x +ℤ y) ≤ b + 32768
+added-within b x y f h = omega (arith, sum-within 32768 b x y (abs-fits x f) h)
+
+-- a store
+pub within-set : (b : ℕ) (xs : List ℤ) (i : ℕ) (y : ℤ) → Within b xs → natAbs y ≤ b → Within b (set xs i y)
+within-set b [] i y h k = tt
+within-set b (x ∷ xs) zero y h k = (k, h .1)
+within-set b (x ∷ xs) (suc i) y h k = (h .0, within-set b xs i y (h .1) k)
 
 -- ---- a sum held within 16 bits
 

@@ -1,15 +1,16 @@
 // Sums of 16-bit values, in 32 bits, held to 16 bits again once all is added.
 ghost use mathlib.Core.Path.{_≡_};
 ghost use mathlib.Core.List.{map};
-ghost use Prim.Native.Nat.{_≤_, _^_};
+ghost use Prim.Native.Nat.{ℕ, _+_, _≤_, _^_};
 ghost use lib.IntN.{pos};
 ghost use lib.ListN.{length, replicate};
 ghost use Rattle.ensemble_sums.specs.Sums.{heldTo16, addedTo, Within};
 
-// Adds the first n values to the first n sums.
+// Adds the first n values to the first n sums. No sum grows by more than a value of 16 bits.
 pub fn add_values(values: &[i16], n: usize, sums: &mut [i32])
     requires { ⌜ (n ≤ length (now values)) × (n ≤ length (now sums)) × Within (2 ^ 30) (now sums) ⌝ }
-    ensures { λ _. ⌜ now (sums .exit) ≡ addedTo (now (sums .entry)) n (now (values .entry)) ⌝ }
+    ensures sums { λ _. ⌜ now (sums .exit) ≡ addedTo (now (sums .entry)) n (now (values .entry)) ⌝ }
+    ensures small { λ _. ⌜ ((b : ℕ) → Within b (now (sums .entry)) → Within (b + 32768) (now (sums .exit))) ⌝ }
 {
     let mut i = 0;
     while i < n {

@@ -12,13 +12,14 @@ use Rattle.refusal.specs.Rules.{firstHolding}
 use Rattle.sheet.specs.Read.{readSheet}
 use Rattle.body_read.specs.Sides.{Sides}
 use Rattle.note_frame.specs.declared.chain.Frame.{Frame}
-use Rattle.ensemble_score.specs.Score.{TakenFrom, listed}
+use Rattle.ensemble_score.specs.Score.{TakenFrom}
 use Rattle.ensemble_score.specs.declared.Entry.{Entry}
-use Rattle.ensemble_score.proofs.ScoreLaws.{listed-is, taken-listed, sixteen}
+use Rattle.ensemble_score.proofs.ScoreLaws.{listed-is}
 use Rattle.ensemble_rules.specs.Rules.{scoreRules}
 use Rattle.ensemble.specs.Mix.{MixResult, mixVoice, mixSheet, mixLeaves}
 use Rattle.ensemble.specs.declared.Mixed.{Mixed}
 use Rattle.ensemble.specs.declared.Mixed.the-variants.{Refused}
+use Rattle.ensemble.proofs.AcceptedLaws.{entries, few-entries, same-first}
 use Rattle.ensemble.proofs.MixLaws.{by-score, by-sheet, by-voice}
 use Rattle.ensemble.proofs.mix_score.Statement.{statement}
 use Rattle.ensemble.proofs.mix_score.Tie as tie
@@ -33,33 +34,33 @@ left-by s o = mixLeaves o (s .args .place) (s .args .out .now)
 -- where the score's own rules don't turn it back: it has at most sixteen entries, which are those that it was taken from, and no rule holds
 module _ (c : tie.After-score-refusal) (none : c .score-refusal .result ≡ 0) where
   abbrev begin : tie.Start
-  begin = c .before .before
+  begin = c .before .before .before .before
 
-  all : length (begin .args .score .entries) ≡ 16
-  all = sixteen (begin .args .score) _ (begin .good .0)
+  own-none : firstHolding (scoreRules (entries (begin .args .score))) ≡ 0
+  own-none = sym (c .score-refusal .ensures) ∙ none
 
   few : begin .args .score .count ≤ 16
-  few = c .score-refusal .ensures .1 none
+  few = few-entries (begin .args .score) own-none
 
-  own-none : (entries : List Entry) → TakenFrom entries (begin .args .score) → firstHolding (scoreRules entries) ≡ 0
-  own-none entries taken = sym (c .score-refusal .ensures .0 entries taken) ∙ none
+  lent-none : (lent : List Entry) → TakenFrom lent (begin .args .score) → firstHolding (scoreRules lent) ≡ 0
+  lent-none lent taken = same-first (begin .args .score) lent taken ∙ own-none
 
-  same-entries : (entries : List Entry) → TakenFrom entries (begin .args .score) → listed (begin .args .score) ≡ entries
-  same-entries entries taken = listed-is entries (begin .args .score) taken all (omega (arith, few, taken .count-is))
+  same-entries : (lent : List Entry) → TakenFrom lent (begin .args .score) → entries (begin .args .score) ≡ lent
+  same-entries lent taken = listed-is (begin .args .score) lent taken (omega (arith, few, taken .count-is))
 
--- what is left of each list that the score was taken from, where the outcome is known
+-- what is left of each score that was lent so, where the outcome is known
 module _ (s : tie.Start) where
   abbrev outcome : List Entry → Outcome (List Frame)
-  outcome entries = mixSheet entries (s .args .rate) (s .args .place) (s .args .sheet .now) (sides s) (length (s .args .out .now))
+  outcome lent = mixSheet lent (s .args .rate) (s .args .place) (s .args .sheet .now) (sides s) (length (s .args .out .now))
 
   abbrev Left : Mixed → List ℤ → Type 0
   Left answer buffer =
-      ((entries : List Entry) → TakenFrom entries (s .args .score) → answer ≡ left-by s (outcome entries) .answer)
-      × ((entries : List Entry) → TakenFrom entries (s .args .score) → buffer ≡ left-by s (outcome entries) .buffer)
+      ((lent : List Entry) → TakenFrom lent (s .args .score) → answer ≡ left-by s (outcome lent) .answer)
+      × ((lent : List Entry) → TakenFrom lent (s .args .score) → buffer ≡ left-by s (outcome lent) .buffer)
 
-  left-refused : (number : ℕ) → ((entries : List Entry) → TakenFrom entries (s .args .score) → outcome entries ≡ refuses number) → Left (Refused number) (s .args .out .now)
+  left-refused : (number : ℕ) → ((lent : List Entry) → TakenFrom lent (s .args .score) → outcome lent ≡ refuses number) → Left (Refused number) (s .args .out .now)
   left-refused number e =
-      (λ entries taken. ap (λ o. left-by s o .answer) (sym (e entries taken)), λ entries taken. ap (λ o. left-by s o .buffer) (sym (e entries taken)))
+      (λ lent taken. ap (λ o. left-by s o .answer) (sym (e lent taken)), λ lent taken. ap (λ o. left-by s o .buffer) (sym (e lent taken)))
 
 score-refusal-requires : tie.Need-score-refusal-requires
 score-refusal-requires c κs = search needs
@@ -67,9 +68,10 @@ score-refusal-requires c κs = search needs
 returns : tie.Need-returns
 returns c =
     let f = c .before in
-    let s = f .before .before in
+    let s = f .before .before .before .before in
     let a = s .args in
-    left-refused s (f .score-refusal .result) (λ entries taken. by-score entries (a .rate) (a .place) (a .sheet .now) (sides s) (length (a .out .now)) _ (f .score-refusal .ensures .0 entries taken) (c .if1 .taken))
+    left-refused s (f .score-refusal .result) (λ lent taken.
+    by-score lent (a .rate) (a .place) (a .sheet .now) (sides s) (length (a .out .now)) _ (f .score-refusal .ensures ∙ sym (same-first (a .score) lent taken)) (c .if1 .taken))
 
 judge-sheet-requires : tie.Need-judge-sheet-requires
 judge-sheet-requires c κs = search needs
@@ -82,22 +84,21 @@ enum-told c = search needs
 
 mix-sound-requires : tie.Need-mix-sound-requires
 mix-sound-requires c κs =
-    let told = c .before in
+    let told = c .before .before in
     let j = told .before .before in
     let f = j .before .before in
     let none = j .before .if1 .left in
-    let score = begin f none .args .score in
-    (sym (j .judge-sheet .ensures) ∙ told .enum-told .given .1, few f none, own-none f none (listed score) (taken-listed score (all f none) (few f none)))
+    (sym (j .judge-sheet .ensures) ∙ told .enum-told .given .1, few f none, own-none f none)
 
 returns-2 : tie.Need-returns-2
 returns-2 c =
     let e = c .before in
     let j = e .before .before in
     let f = j .before .before in
-    let s = f .before .before in
+    let s = f .before .before .before .before in
     let a = s .args in
-    left-refused s _ (λ entries taken.
-    by-sheet entries (a .rate) (a .place) (a .sheet .now) (sides s) (length (a .out .now)) (own-none f (j .before .if1 .left) entries taken) _ (sym (j .judge-sheet .ensures) ∙ e .number .given .1))
+    left-refused s _ (λ lent taken.
+    by-sheet lent (a .rate) (a .place) (a .sheet .now) (sides s) (length (a .out .now)) (lent-none f (j .before .if1 .left) lent taken) _ (sym (j .judge-sheet .ensures) ∙ e .number .given .1))
 
 same-length : tie.Need-same-length
 same-length c = search needs
@@ -105,20 +106,20 @@ same-length c = search needs
 returns-3 : tie.Need-returns-3
 returns-3 c =
     let m = c .before in
-    let told = m .before .before in
+    let told = m .before .before .before in
     let j = told .before .before in
     let f = j .before .before in
-    let s = f .before .before in
+    let s = f .before .before .before .before in
     let a = s .args in
     let none = j .before .if1 .left in
     let sound = sym (j .judge-sheet .ensures) ∙ told .enum-told .given .1 in
     let done = m .mix-sound .ensures in
-    let same : (entries : List Entry) → TakenFrom entries (a .score)
-    → mixVoice (listed (a .score)) (a .rate) (a .place) (readSheet (a .sheet .now)) (sides s) (length (a .out .now)) ≡ outcome s entries =
-    λ entries taken.
-    ap (λ l. mixVoice l (a .rate) (a .place) (readSheet (a .sheet .now)) (sides s) (length (a .out .now))) (same-entries f none entries taken)
-    ∙ sym (by-voice entries (a .rate) (a .place) (a .sheet .now) (sides s) (length (a .out .now)) (own-none f none entries taken) sound) in
-    (λ entries taken. done .0 ∙ ap (λ o. left-by s o .answer) (same entries taken), λ entries taken. done .1 ∙ ap (λ o. left-by s o .buffer) (same entries taken))
+    let same : (lent : List Entry) → TakenFrom lent (a .score)
+    → mixVoice (entries (a .score)) (a .rate) (a .place) (readSheet (a .sheet .now)) (sides s) (length (a .out .now)) ≡ outcome s lent =
+    λ lent taken.
+    ap (λ l. mixVoice l (a .rate) (a .place) (readSheet (a .sheet .now)) (sides s) (length (a .out .now))) (same-entries f none lent taken)
+    ∙ sym (by-voice lent (a .rate) (a .place) (a .sheet .now) (sides s) (length (a .out .now)) (lent-none f none lent taken) sound) in
+    (λ lent taken. done .0 ∙ ap (λ o. left-by s o .answer) (same lent taken), λ lent taken. done .1 ∙ ap (λ o. left-by s o .buffer) (same lent taken))
 
 pub mix-score-spec : {M : Type 1} → statement M
 mix-score-spec =

@@ -11,6 +11,7 @@ use Rattle.body_read.specs.Sides.{Sides}
 use Rattle.note_frame.specs.declared.chain.Frame.{Frame}
 use Rattle.note_frame.proofs.FramesLaws.{frames-length}
 use Rattle.ensemble_score.specs.Score.{listed}
+use Rattle.ensemble_score.specs.declared.Entry.{Entry}
 use Rattle.ensemble_rules.proofs.RuleLaws.{mix-first}
 use Rattle.ensemble_block.specs.Mixed.{mixedFrame}
 use Rattle.ensemble.specs.Mix.{MixResult, mixLeaves, placeAfter}
@@ -26,6 +27,10 @@ entry c = c .before .before .before
 abbrev sides : tie.Start → Sides
 sides s = record { left = s .args .left .now; right = s .args .right .now }
 
+-- the entries that were taken over
+abbrev entries : tie.Start → List Entry
+entries s = listed (s .args .count) (s .args .numbers .now)
+
 -- what is left, by the outcome
 abbrev left-by : tie.Start → Outcome (List Frame) → MixResult
 left-by s o = mixLeaves o (s .args .place) (s .args .out .now)
@@ -34,11 +39,11 @@ left-by s o = mixLeaves o (s .args .place) (s .args .out .now)
 number-is : (c : tie.After-play-refusal) →
     let s = entry c in
     let a = s .args in
-    c .play-refusal .result ≡ numberOf (listed (a .score)) (a .rate) (a .place) (readSheet (a .sheet .now)) (sides s) (length (a .out .now))
+    c .play-refusal .result ≡ numberOf (entries s) (a .rate) (a .place) (readSheet (a .sheet .now)) (sides s) (length (a .out .now))
 number-is c =
     let s = entry c in
     let a = s .args in
-    c .play-refusal .ensures ∙ sym (mix-first (readSheet (a .sheet .now)) (length (a .left .now)) (length (a .right .now)) (listed (a .score)) (a .rate) (length (a .out .now)) (s .pre .2))
+    c .play-refusal .ensures ∙ sym (mix-first (readSheet (a .sheet .now)) (length (a .left .now)) (length (a .right .now)) (entries s) (a .rate) (length (a .out .now)) (s .pre .2))
 
 layout-of-requires : tie.Need-layout-of-requires
 layout-of-requires c κs = search needs
@@ -51,7 +56,7 @@ returns c =
     let f = c .before in
     let s = entry f in
     let a = s .args in
-    let e = mix-refused (listed (a .score)) (a .rate) (a .place) (readSheet (a .sheet .now)) (sides s) (length (a .out .now)) _ (number-is f) (c .if1 .taken) in
+    let e = mix-refused (entries s) (a .rate) (a .place) (readSheet (a .sheet .now)) (sides s) (length (a .out .now)) _ (number-is f) (c .if1 .taken) in
     let same = sym (ap (left-by s) e) in
     (ap (λ (x : MixResult). x .answer) same, ap (λ (x : MixResult). x .buffer) same)
 
@@ -60,8 +65,10 @@ mixed-block-requires c κs =
     let f = c .before .before in
     let s = entry f in
     let a = s .args in
-    mixable (a .score) (a .rate) (a .sheet .now) _ (a .left .now) (a .right .now) (length (a .out .now))
-    (s .pre .0) (f .before .layout-of .ensures) (s .pre .1) (s .pre .2) (sym (f .play-refusal .ensures) ∙ c .before .if1 .left)
+    let ready =
+    mixable (entries s) (a .rate) (a .sheet .now) _ (a .left .now) (a .right .now) (length (a .out .now))
+    (s .pre .0) (f .before .layout-of .ensures) (s .pre .2) (sym (f .play-refusal .ensures) ∙ c .before .if1 .left) in
+    (ready .0, s .pre .1, ready .1)
 
 place-after-requires : tie.Need-place-after-requires
 place-after-requires c κs = search needs
@@ -77,9 +84,9 @@ returns-2 c =
     let s = entry f in
     let a = s .args in
     let v = readSheet (a .sheet .now) in
-    let e = mix-accepted (listed (a .score)) (a .rate) (a .place) v (sides s) (length (a .out .now)) _ (number-is f) (accepted .if1 .left) in
+    let e = mix-accepted (entries s) (a .rate) (a .place) v (sides s) (length (a .out .now)) _ (number-is f) (accepted .if1 .left) in
     let same = sym (ap (left-by s) e) in
-    let count = frames-length (mixedFrame v (sides s) (a .rate) (listed (a .score))) (a .place) (length (a .out .now) / 2) in
+    let count = frames-length (mixedFrame v (sides s) (a .rate) (entries s)) (a .place) (length (a .out .now) / 2) in
     let after = ap Place (c .place-after .ensures ∙ ap (placeAfter (a .place)) (sym count)) in
     (after ∙ ap (λ (x : MixResult). x .answer) same, b .mixed-block .ensures ∙ ap (λ (x : MixResult). x .buffer) same)
 

@@ -17,19 +17,19 @@ use Rattle.ensemble_block.proofs.mixed_block.Statement.{statement}
 use Rattle.ensemble_block.proofs.mixed_block.Tie as tie
 
 abbrev Inv-loop : tie.InvT-loop
-Inv-loop score rate place sheet l left right out₀ first room end sums₀ at₀ out sums at =
+Inv-loop count numbers rate place sheet l left right out₀ first room end sums₀ at₀ out sums at =
     (first ≤ at)
     × (at ≤ end)
     × (length out ≡ length out₀)
-    × (out ≡ filledTo (mixedFrame (readSheet sheet) (record { left = left; right = right }) rate (listed score)) first out₀ at)
+    × (out ≡ filledTo (mixedFrame (readSheet sheet) (record { left = left; right = right }) rate (listed count numbers)) first out₀ at)
     × (sums ≡ replicate 512 (pos 0))
 
 abbrev μ-loop : tie.MeasureT-loop
-μ-loop score rate place sheet l left right out₀ first room end sums₀ at₀ out sums at = end - at
+μ-loop count numbers rate place sheet l left right out₀ first room end sums₀ at₀ out sums at = end - at
 
 -- the mixed frames
 abbrev frames : tie.Start Inv-loop μ-loop → ℕ → Frame
-frames s = let a = s .args in mixedFrame (readSheet (a .sheet .now)) (record { left = a .left .now; right = a .right .now }) (a .rate) (listed (a .score))
+frames s = let a = s .args in mixedFrame (readSheet (a .sheet .now)) (record { left = a .left .now; right = a .right .now }) (a .rate) (listed (a .count) (a .numbers .now))
 
 -- the loop that a stretch stands in
 abbrev turn : tie.After-stretch-end Inv-loop μ-loop → tie.At-loop Inv-loop μ-loop
@@ -140,8 +140,10 @@ mix-stretch-requires c κs =
     let k = c .before .before in
     let s = start (turn k) in
     let a = s .args in
-    stretch-ready (a .score) (a .rate) (at k) (next k) _ (a .sheet .now) (a .l) (a .left .now) (a .right .now) (totals k) (part k)
-    (s .pre .0) (k .stretch-end .ensures) (in-time k) (part-long k) (totals-are k)
+    let ready =
+    stretch-ready (listed (a .count) (a .numbers .now)) (a .rate) (at k) (next k) _ (a .sheet .now) (a .l) (a .left .now) (a .right .now) (totals k) (part k)
+    (s .pre .0) (k .stretch-end .ensures) (in-time k) (part-long k) (totals-are k) in
+    (ready, s .pre .1)
 
 loop-less : tie.Need-loop-less Inv-loop μ-loop
 loop-less c =
@@ -186,8 +188,8 @@ returns c =
     let a = s .args in
     let end = a .place + l .before .least .result in
     let last : o .at ≡ end = omega (arith, o .inv .1, c .before .before .before .loop-test .left) in
-    let ends = mixed-last (readSheet (a .sheet .now)) (record { left = a .left .now; right = a .right .now }) (a .rate) (listed (a .score)) in
-    filled-whole (frames s) (a .place) (a .out .now) ends (omega (arith, s .fits .place)) (s .pre .1) end (ap (λ (n : ℕ). a .place + n) (l .before .least .ensures))
+    let ends = mixed-last (readSheet (a .sheet .now)) (record { left = a .left .now; right = a .right .now }) (a .rate) (listed (a .count) (a .numbers .now)) in
+    filled-whole (frames s) (a .place) (a .out .now) ends (omega (arith, s .fits .place)) (s .pre .2) end (ap (λ (n : ℕ). a .place + n) (l .before .least .ensures))
     (o .out) _ (o .inv .3 ∙ ap (filledTo (frames s) (a .place) (a .out .now)) last) (o .inv .2) (c .before .silence-from .ensures)
 
 pub mixed-block-spec : {M : Type 1} → statement M

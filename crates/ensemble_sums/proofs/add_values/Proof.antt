@@ -1,8 +1,9 @@
--- `ensemble_sums::add_values` meets its contract: after i turns the first i sums have their values added, and past them stands what stood.
+-- `ensemble_sums::add_values` meets its contract: after i turns the first i sums have their values added, and past them stands what stood;
+-- no sum grew by more than a value of 16 bits.
 -- Assumes nothing.
 use mathlib.Core.Path.{_≡_, refl, _∙_}
 use mathlib.Core.List.{List, _++_}
-use Prim.Native.Nat.{_-_, _≤_, _<_, _^_}
+use Prim.Native.Nat.{ℕ, _+_, _-_, _≤_, _<_, _^_}
 use native.Mathlib.Omega.{arith}
 use lib.IntN.{ℤ, pos, natAbs, _+ℤ_}
 use lib.ListN.{length, take, drop, getD, length-set}
@@ -11,13 +12,15 @@ use mir.Val.{SFits, toZ, ofZ}
 use mir.Facts.{toZ-ofZ}
 use Rattle.laws.proofs.Prefix.{prefix-store}
 use Rattle.laws.proofs.Signed.{zarith, known, sum, abs-parts, widens, widened}
-use Rattle.ensemble_sums.specs.Sums.{plus}
-use Rattle.ensemble_sums.proofs.SumLaws.{plus-longer, plus-take, plus-at, left-at, within-at}
+use Rattle.ensemble_sums.specs.Sums.{plus, Within}
+use Rattle.ensemble_sums.proofs.SumLaws.{plus-longer, plus-take, plus-at, left-at, within-at, within-more, added-within, within-set}
 use Rattle.ensemble_sums.proofs.add_values.Statement.{statement}
 use Rattle.ensemble_sums.proofs.add_values.Tie as tie
 
 abbrev Inv-loop : tie.InvT-loop
-Inv-loop values n sums₀ i₀ sums i = (i ≤ n) × (length sums ≡ length sums₀) × (sums ≡ take i (plus values sums₀) ++ drop i sums₀)
+Inv-loop values n sums₀ i₀ sums i =
+    (i ≤ n) × (length sums ≡ length sums₀) × (sums ≡ take i (plus values sums₀) ++ drop i sums₀)
+    × ((b : ℕ) → Within b sums₀ → Within (b + 32768) sums)
 
 abbrev μ-loop : tie.MeasureT-loop
 μ-loop values n sums₀ i₀ sums i = n - i
@@ -67,8 +70,12 @@ module _ (c : tie.After-sums2 Inv-loop μ-loop) where
   unfolding value
   stored = rw (so-far-is, plus-at (turn c .loop .i) (turn c .before .args .values .now) (turn c .before .args .sums .now) (omega arith) (omega arith))
 
+  -- a sum that was within a bound grows by a value of 16 bits
+  grown : (b : ℕ) → Within b (turn c .before .args .sums .now) → natAbs (value (c .before) +ℤ so-far) ≤ b + 32768
+  grown b h = added-within b (value (c .before)) so-far (value-fits (c .before)) (rw so-far-is (within-at b (turn c .before .args .sums .now) (turn c .loop .i) h))
+
 loop-holds : tie.Need-loop-holds Inv-loop μ-loop
-loop-holds c = (omega arith, refl, refl)
+loop-holds c = (omega arith, refl, refl, λ b h. within-more b (b + 32768) (c .args .sums .now) (omega arith) h)
 
 mul-sums : tie.Need-mul-sums Inv-loop μ-loop
 mul-sums c = omega arith
@@ -110,6 +117,7 @@ loop-again c =
       omega arith,
       length-set (l .sums) (l .i) _ ∙ l .inv .1,
       prefix-store (wanted (turn c)) (turn c .before .args .sums .now) (l .sums) (l .i) (pos 0) _ (longer c) (omega arith) (l .inv .2) (stored c),
+      λ b h. within-set (b + 32768) (l .sums) (l .i) _ (l .inv .3 b h) (grown c b h),
     )
 
 same-length : tie.Need-same-length Inv-loop μ-loop
@@ -120,7 +128,7 @@ returns c =
     let l = c .before .loop in
     let a = c .before .before .args in
     let e : l .i ≡ a .n = omega arith in
-    l .inv .2 ∙ rw (e, plus-take (a .n) (a .values .now) (a .sums .now))
+    (l .inv .2 ∙ rw (e, plus-take (a .n) (a .values .now) (a .sums .now)), l .inv .3)
 
 pub add-values-spec : {M : Type 1} → statement M
 add-values-spec =

@@ -1,7 +1,7 @@
 -- `ensemble_block::entry::add_entry` meets its contract: an entry that hasn't started adds nothing, any other the frames of its block that
 -- aren't over.
 -- Assumes nothing.
-use Prim.Native.Nat.{_+_, _*_, _≤_}
+use Prim.Native.Nat.{_+_}
 use mathlib.Core.Path.{_∙_}
 use native.Mathlib.Omega.{arith}
 use borrow.Author.Needs.{needs}
@@ -10,7 +10,7 @@ use Rattle.body_read.specs.Sides.{Sides}
 use Rattle.sheet.specs.Read.{readSheet}
 use Rattle.ensemble_sums.proofs.SumLaws.{within-more}
 use Rattle.ensemble_block.proofs.EntryLaws.{entry-accepted}
-use Rattle.ensemble_block.proofs.AddLaws.{added-nothing, added-frames, within-read}
+use Rattle.ensemble_block.proofs.AddLaws.{added-nothing, added-frames}
 use Rattle.ensemble_block.proofs.entry.add_entry.Statement.{statement}
 use Rattle.ensemble_block.proofs.entry.add_entry.Tie as tie
 
@@ -22,7 +22,7 @@ abbrev start : tie.Else1 → tie.Start
 start c = c .before .before .before
 
 abbrev played : tie.After-sums → tie.After-sounding-block
-played c = c .before .before .before .before .before .before .before
+played c = c .before .before .before .before .before
 
 abbrev sides : tie.Start → Sides
 sides s = record { left = s .args .left .now; right = s .args .right .now }
@@ -66,9 +66,6 @@ sounding-block-requires c κs =
 mul-values : tie.Need-mul-values
 mul-values c = search needs
 
-read-values-requires : tie.Need-read-values-requires
-read-values-requires c κs = search needs
-
 add-values-requires : tie.Need-add-values-requires
 add-values-requires c κs = search needs
 
@@ -86,17 +83,11 @@ returns-2 c =
     let a = s .args in
     let p = s .pre in
     let mid = k .sounding-block .last .1 .1 .1 .1 .1 .1 .0 in
-    let n = 2 * k .sounding-block .result in
     let added =
     added-frames (readSheet (a .sheet .now)) (sides s) (a .rate) (a .e) (a .at) (a .sums .now) (a .out .now) (p .calm) (p .even) (p .as-many)
     (at .if1 .left) (p .good .ends-later) (p .in-time) (k .before .before .key-at .result) mid (k .sounding-block .result)
     (k .before .before .key-at .ensures) (k .sounding-block .ensures) in
-    let room : n ≤ length (a .sums .now) = search needs in
-    let enough : n ≤ length mid = omega (arith, k .sounding-block .kept .1 .1 .1 .1 .1 .1 .0) in
-    let fit = c .before .before .before .before .read-values .ensures in (
-      c .before .add-values .ensures ∙ added,
-      λ b h. rw (c .before .add-values .ensures) (within-read b n mid (a .sums .now) enough room fit h),
-    )
+    (c .before .add-values .ensures .0 ∙ added, c .before .add-values .ensures .1)
 
 pub add-entry-spec : {M : Type 1} → statement M
 add-entry-spec =
@@ -110,7 +101,6 @@ add-entry-spec =
     cast-sounding-block
     sounding-block-requires
     mul-values
-    read-values-requires
     add-values-requires
     same-length
     same-length-2

@@ -8,20 +8,19 @@ use lib.IntN.{pos}
 use lib.ListN.{length, drop, replicate, length-replicate}
 use Rattle.sheet.specs.Read.{readSheet}
 use Rattle.ensemble_score.specs.Score.{listed}
-use Rattle.ensemble_score.proofs.ScoreLaws.{sixteen}
 use Rattle.ensemble_block.proofs.SumsLaws.{Summed, added-start, added-more, added-held, entry-ready}
 use Rattle.ensemble_block.proofs.stretch.mix_stretch.Statement.{statement}
 use Rattle.ensemble_block.proofs.stretch.mix_stretch.Tie as tie
 
 abbrev Inv-loop : tie.InvT-loop
-Inv-loop score rate at sheet l left right sums₀ out₀ i₀ sums out i =
-    (i ≤ score .count)
+Inv-loop count numbers rate at sheet l left right sums₀ out₀ i₀ sums out i =
+    (i ≤ count)
     × (length sums ≡ length sums₀)
     × (length out ≡ length out₀)
-    × Summed (readSheet sheet) (record { left = left; right = right }) rate at (length out₀ / 2) (drop i (listed score)) sums
+    × Summed (readSheet sheet) (record { left = left; right = right }) rate at (length out₀ / 2) (drop i (listed count numbers)) sums
 
 abbrev μ-loop : tie.MeasureT-loop
-μ-loop score rate at sheet l left right sums₀ out₀ i₀ sums out i = i
+μ-loop count numbers rate at sheet l left right sums₀ out₀ i₀ sums out i = i
 
 -- the loop that the next entry stands in
 abbrev arg-loop : tie.After-add-entry-arg2 Inv-loop μ-loop → tie.At-loop Inv-loop μ-loop
@@ -40,32 +39,29 @@ held c = c .before .before
 abbrev held-loop : tie.After-put-held-arg2 Inv-loop μ-loop → tie.At-loop Inv-loop μ-loop
 held-loop c = c .before .before .before
 
-long : (s : tie.Start Inv-loop μ-loop) → length (s .args .score .entries) ≡ 16
-long s = sixteen (s .args .score) _ (s .good .0)
-
 -- there are as many sums as places
 as-many : (s : tie.Start Inv-loop μ-loop) → length (s .args .sums .now) ≡ length (s .args .out .now)
-as-many s = ap length (s .pre .none-yet) ∙ length-replicate (length (s .args .out .now)) (pos 0)
+as-many s = ap length (s .pre .0 .none-yet) ∙ length-replicate (length (s .args .out .now)) (pos 0)
 
 loop-holds : tie.Need-loop-holds Inv-loop μ-loop
 loop-holds c =
     let s = c .before in
     let a = s .args in
-    (omega arith, refl, refl, added-start (a .score) (a .rate) (a .at) (a .sheet .now) (a .l) (a .left .now) (a .right .now) (a .sums .now) (a .out .now) (long s) (s .pre))
+    (omega arith, refl, refl, added-start (a .count) (a .numbers .now) (a .rate) (a .at) (a .sheet .now) (a .l) (a .left .now) (a .right .now) (a .sums .now) (a .out .now) (s .pre .0))
 
 sub-i : tie.Need-sub-i Inv-loop μ-loop
 sub-i c = search needs
 
 nth-entry-requires : tie.Need-nth-entry-requires Inv-loop μ-loop
-nth-entry-requires c κs = omega (arith, start (c .before) .pre .mixable .count-small)
+nth-entry-requires c κs = search needs
 
 add-entry-requires : tie.Need-add-entry-requires Inv-loop μ-loop
 add-entry-requires c κs =
     let o = arg-loop c .loop in
     let s = start (arg-loop c) in
     let a = s .args in
-    entry-ready (a .score) (a .rate) (a .at) (a .sheet .now) (a .l) (a .left .now) (a .right .now) (a .sums .now) (a .out .now) (long s) (s .pre)
-    (o .i) (c .before .before .nth-entry .result) (search needs) (o .inv .0) (c .before .before .nth-entry .ensures) (o .sums) (o .out) (o .inv .2) (o .inv .3)
+    entry-ready (a .count) (a .numbers .now) (a .rate) (a .at) (a .sheet .now) (a .l) (a .left .now) (a .right .now) (a .sums .now) (a .out .now) (s .pre .0)
+    (o .i) (c .before .before .nth-entry .result) (search needs) (o .inv .0) (c .before .before .nth-entry .ensures) (o .sums) (o .out) (s .pre .1) (o .inv .2) (o .inv .3)
 
 loop-less : tie.Need-loop-less Inv-loop μ-loop
 loop-less c = search needs
@@ -81,7 +77,7 @@ loop-again c =
       search needs,
       search needs,
       search needs,
-      added-more (a .score) (a .rate) (a .at) (a .sheet .now) (a .l) (a .left .now) (a .right .now) (a .sums .now) (a .out .now) (long s) (s .pre)
+      added-more (a .count) (a .numbers .now) (a .rate) (a .at) (a .sheet .now) (a .l) (a .left .now) (a .right .now) (a .sums .now) (a .out .now) (s .pre .0)
           (o .i) (g .before .before .nth-entry .result) (search needs) (o .inv .0) (g .before .before .nth-entry .ensures) (o .sums) _ (o .out) (o .inv .2) (e .0) (e .1) (o .inv .3),
     )
 
@@ -100,7 +96,7 @@ returns c =
     let o = held-loop (k .before) .loop in
     let s = start (held-loop (k .before)) in
     let a = s .args in
-    let all = added-held (a .score) (a .rate) (a .at) (a .sheet .now) (a .l) (a .left .now) (a .right .now) (a .sums .now) (a .out .now) (long s) (s .pre) (o .i) (o .sums) (search needs) (o .inv .3) in
+    let all = added-held (a .count) (a .numbers .now) (a .rate) (a .at) (a .sheet .now) (a .l) (a .left .now) (a .right .now) (a .sums .now) (a .out .now) (s .pre .0) (o .i) (o .sums) (search needs) (o .inv .3) in
     (k .put-held .ensures .0 ∙ all, k .put-held .ensures .1 ∙ ap (λ (n : ℕ). replicate n (pos 0)) (o .inv .1))
 
 pub mix-stretch-spec : {M : Type 1} → statement M

@@ -1,25 +1,22 @@
 -- `ensemble_block::stretch::stretch_end` meets its contract. The invariant: the stretch up to `next` is calm for the entries seen.
 -- Assumes nothing.
 use Prim.Native.Nat.{ℕ, _-_, _≤_}
-use mathlib.Core.Path.{_≡_, ap, _∙_}
+use mathlib.Core.Path.{ap, _∙_}
 use native.Mathlib.Omega.{arith}
 use borrow.Author.Needs.{needs}
 use lib.ListN.{length, take}
 use Rattle.ensemble_score.specs.Score.{listed}
-use Rattle.ensemble_score.proofs.ScoreLaws.{sixteen}
+use Rattle.ensemble_score.proofs.ScoreLaws.{listed-length}
 use Rattle.ensemble_block.specs.Stretch.{StretchTo, cutAt}
 use Rattle.ensemble_block.proofs.StretchLaws.{stretch-none, stretch-more, stretch-all}
 use Rattle.ensemble_block.proofs.stretch.stretch_end.Statement.{statement}
 use Rattle.ensemble_block.proofs.stretch.stretch_end.Tie as tie
 
 abbrev Inv-loop : tie.InvT-loop
-Inv-loop score at end next₀ i₀ next i = (i ≤ score .count) × StretchTo (take i (listed score)) at end next
+Inv-loop count numbers at end next₀ i₀ next i = (i ≤ count) × StretchTo (take i (listed count numbers)) at end next
 
 abbrev μ-loop : tie.MeasureT-loop
-μ-loop score at end next₀ i₀ next i = score .count - i
-
-long : (c : tie.After-struct-known Inv-loop μ-loop) → length (c .before .before .before .args .score .entries) ≡ 16
-long c = let s = c .before .before .before in sixteen (s .args .score) _ (s .good .0)
+μ-loop count numbers at end next₀ i₀ next i = count - i
 
 add-least : tie.Need-add-least Inv-loop μ-loop
 add-least c = search needs
@@ -50,23 +47,18 @@ loop-less c = search needs
 loop-again : tie.Need-loop-again Inv-loop μ-loop
 loop-again c =
     let k = c .before .before in
-    let known = k .before .before in
-    let o = known .before .loop in
-    let s = known .before .before .before in
-    let a = s .args in
-    let cut = c .cut-at2 .ensures ∙ ap (λ (n : ℕ). cutAt (a .at) n (k .nth-entry .result .«key_up»)) (c .before .cut-at .ensures) in (
-      search needs,
-      stretch-more (a .score) (long known) (s .pre .2) (a .at) (a .end)
-          (o .i) (o .next) _ _ (search needs) (k .nth-entry .ensures) cut (o .inv .1),
-    )
+    let o = k .before .before .loop in
+    let a = k .before .before .before .before .args in
+    let cut = c .cut-at2 .ensures ∙ ap (λ (n : ℕ). cutAt (a .at) n (k .nth-entry .result .«key_up»)) (c .before .cut-at .ensures) in
+    (search needs, stretch-more (a .count) (a .numbers .now) (a .at) (a .end) (o .i) (o .next) _ _ (search needs) (k .nth-entry .ensures) cut (o .inv .1))
 
 returns : tie.Need-returns Inv-loop μ-loop
 returns c =
-    let known = c .before in
-    let o = known .before .loop in
-    let s = known .before .before .before in
-    let a = s .args in
-    stretch-all (a .score) (long known) (s .pre .2) (a .at) (a .end) (o .i) (o .next) (search needs) (o .inv .1)
+    let o = c .before .loop in
+    let a = c .before .before .before .args in
+    let score = listed (a .count) (a .numbers .now) in
+    let all : length score ≤ o .i = omega (arith, listed-length (a .numbers .now) (a .count), c .loop-test .left) in
+    stretch-all score (a .at) (a .end) (o .i) (o .next) all (o .inv .1)
 
 pub stretch-end-spec : {M : Type 1} → statement M
 stretch-end-spec =

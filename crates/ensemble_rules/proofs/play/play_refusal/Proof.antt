@@ -13,6 +13,7 @@ use Rattle.voice_rules.proofs.VoiceRuleLaws.{voice-numbered}
 use Rattle.note_rules.specs.Rules.{sequenceRules, placeRules}
 use Rattle.note_rules.proofs.RuleLaws.{sequence-numbered, places-numbered}
 use Rattle.ensemble_score.specs.Score.{listed}
+use Rattle.ensemble_score.specs.declared.Entry.{Entry}
 use Rattle.ensemble_rules.specs.Rules.{entriesRules, playRules}
 use Rattle.ensemble_rules.proofs.RuleLaws.{fromSequence, fromPlaces, play-are}
 use borrow.Author.Needs.{needs}
@@ -29,28 +30,31 @@ sequence-entry c = voice-entry (c .before .before)
 abbrev places-entry : tie.After-places-refusal → tie.Start
 places-entry c = sequence-entry (c .before .before)
 
--- what the code was given: the voice, all rules, and those from a part on
+-- what the code was given: the voice, the score's entries, all rules, and those from a part on
 module _ (s : tie.Start) where
   abbrev voice : Voice
   voice = readSheet (s .args .sheet .now)
+
+  abbrev score : List Entry
+  score = listed (s .args .count) (s .args .numbers .now)
 
   abbrev ofVoice : List Rule
   ofVoice = voiceRules voice (s .args .left) (s .args .right)
 
   abbrev first : ℕ
-  first = firstHolding (playRules voice (s .args .left) (s .args .right) (listed (s .args .s)) (s .args .rate) (s .args .places))
+  first = firstHolding (playRules voice (s .args .left) (s .args .right) score (s .args .rate) (s .args .places))
 
   abbrev ofEntries : List Rule
-  ofEntries = entriesRules voice (s .args .rate) (listed (s .args .s))
+  ofEntries = entriesRules voice (s .args .rate) score
 
   abbrev afterSequence : List Rule
-  afterSequence = fromPlaces voice (listed (s .args .s)) (s .args .rate) (s .args .places)
+  afterSequence = fromPlaces voice score (s .args .rate) (s .args .places)
 
   abbrev afterVoice : List Rule
-  afterVoice = fromSequence voice (listed (s .args .s)) (s .args .rate) (s .args .places)
+  afterVoice = fromSequence voice score (s .args .rate) (s .args .places)
 
   all-are : first ≡ firstHolding (ofVoice ++ afterVoice)
-  all-are = ap firstHolding (play-are voice (s .args .left) (s .args .right) (listed (s .args .s)) (s .args .rate) (s .args .places))
+  all-are = ap firstHolding (play-are voice (s .args .left) (s .args .right) score (s .args .rate) (s .args .places))
 
 voice-refusal-requires : tie.Need-voice-refusal-requires
 voice-refusal-requires c κs = search needs
