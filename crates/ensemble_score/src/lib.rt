@@ -72,7 +72,7 @@ fn four_from(score: &[Entry], i: usize) -> Four
 }
 
 // The numbers of an entry, at its five places.
-fn put_entry(numbers: &mut [u32], i: usize, e: Entry)
+pub fn put_entry(numbers: &mut [u32], i: usize, e: Entry)
     requires { ⌜ (length (now numbers) ≡ 80) × (i < 16) ⌝ }
     ensures { λ _. ⌜ EntryPut (now (numbers .entry)) i e (now (numbers .exit)) ⌝ }
 {

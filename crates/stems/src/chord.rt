@@ -2,35 +2,32 @@
 // each pass how many of its values differ from the first one's: none, since a mix is the same however it is cut into blocks.
 use crate::compare::differing;
 use crate::report;
+use ensemble::Entry;
 use ensemble::Mixed;
 use ensemble::Score;
 use ensemble::mix_score;
+use ensemble_score::put_entry;
 ghost use mathlib.Core.Path.{_≡_};
-ghost use Prim.Native.Nat.{_+_, _≤_, _<_};
+ghost use Prim.Native.Nat.{_≤_, _<_};
 ghost use lib.ListN.{length};
 
-// Stores the five numbers of an entry: start, key-up, step, octave, velocity.
-fn put_entry(numbers: &mut [u32], at: usize, entry: &[u32; 5])
-    requires { ⌜ at + 5 ≤ length (now numbers) ⌝ }
-{
-    let second = at + 1;
-    let third = at + 2;
-    let fourth = at + 3;
-    let fifth = at + 4;
-    numbers[at] = entry[0];
-    numbers[second] = entry[1];
-    numbers[third] = entry[2];
-    numbers[fourth] = entry[3];
-    numbers[fifth] = entry[4];
+fn struck(start: u32, key_up: u32, step: u32, octave: u8, velocity: u8) -> Entry {
+    Entry {
+        start,
+        key_up,
+        step,
+        octave,
+        velocity,
+    }
 }
 
 // A fifth, a fourth and an octave above the first note, each struck softer and the last in the higher octave; the third is let go first.
 fn score() -> Score {
     let mut numbers = [0u32; 80];
-    put_entry(&mut numbers, 0, &[0, 1000, 40000, 1, 127]);
-    put_entry(&mut numbers, 5, &[100, 1100, 60000, 1, 110]);
-    put_entry(&mut numbers, 10, &[397, 700, 53333, 1, 100]);
-    put_entry(&mut numbers, 15, &[400, 1200, 40000, 0, 90]);
+    put_entry(&mut numbers, 0, struck(0, 1000, 40000, 1, 127));
+    put_entry(&mut numbers, 1, struck(100, 1100, 60000, 1, 110));
+    put_entry(&mut numbers, 2, struck(397, 700, 53333, 1, 100));
+    put_entry(&mut numbers, 3, struck(400, 1200, 40000, 0, 90));
     Score { count: 4, numbers }
 }
 

@@ -46,13 +46,18 @@ fn play_file(file: &[u8]) {
             let a = smaller(l.left, 1024);
             let b = smaller(l.right, 1024);
             play_voice(&sheet[..s], &left[..a], &right[..b]);
-            chord::mix_voice(&sheet[..s], &left[..a], &right[..b]);
         }
     }
 }
 
-// The first stem, with its frames at the start, around the key-up and where the note ends; then the others.
+// One note, and then a chord.
 fn play_voice(sheet: &[u8], left: &[i8], right: &[i8]) {
+    play_note(sheet, left, right);
+    chord::mix_voice(sheet, left, right);
+}
+
+// The first stem, with its frames at the start, around the key-up and where the note ends; then the others.
+fn play_note(sheet: &[u8], left: &[i8], right: &[i8]) {
     let mut first = [0i16; 4000];
     match stem::play(sheet, left, right, 1, &mut first) {
         Answer::Refused(number) => report::refused(number),

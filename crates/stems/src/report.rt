@@ -66,7 +66,7 @@ pub fn mixed(block: usize, place: u32) {
 pub fn difference(n: usize) {
     say(b", ");
     number(n as u64);
-    say(b" values differ from the first\n");
+    say(b" values differ from the first stem\n");
 }
 
 pub fn refused(n: u8) {
