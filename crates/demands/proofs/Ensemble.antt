@@ -2,8 +2,8 @@
 -- comes back stops at 4,294,967,295, which changes no mixed frame.
 -- Assumes nothing.
 use Prim.Native.Nat.{ℕ, _+_, _/_, _^_, min}
-use mathlib.Core.Bool.{Bool, true, false, not}
-use mathlib.Core.List.{List, [], _∷_, _++_, map}
+use mathlib.Core.Bool.{not}
+use mathlib.Core.List.{List, [], _∷_, map}
 use mathlib.Core.Path.{_≡_, refl, sym, ap, _∙_}
 use native.Mathlib.Nat.{add-zero}
 use native.Mathlib.Omega.{arith}
@@ -13,22 +13,20 @@ use lib.ListN.{length}
 use Rattle.refusal.specs.Outcome.{Outcome, gives, refuses, andThen}
 use Rattle.header.specs.Octaves.{totalSamples}
 use Rattle.sheet.specs.Flat.{flat}
-use Rattle.note_frame.specs.Frames.{framesFrom, interleaved}
+use Rattle.note_frame.specs.Frames.{framesFrom}
 use Rattle.note_frame.specs.declared.chain.Frame.{Frame}
 use Rattle.note_frame.proofs.FramesLaws.{frames-none, frames-length, interleaved-none}
-use Rattle.voice_read.specs.Parsed.{Lent}
 use Rattle.voice_read.specs.ReadVoice.{Reading, readVoice}
-use Rattle.voice_read.specs.declared.chunks.Lengths.{Lengths}
 use Rattle.ensemble_score.specs.declared.Entry.{Entry}
 use Rattle.ensemble_block.specs.Mixed.{mixedFrame}
-use Rattle.ensemble.specs.Mix.{mixVoice, mixSheet, placeAfter, mixLeaves}
+use Rattle.ensemble.specs.Mix.{mixSheet, placeAfter, mixLeaves}
 use Rattle.ensemble.specs.Calls.{MixOut, before, acceptedBlock, lastPlace, mixAll}
 use Rattle.ensemble.specs.declared.Mixed.{Mixed}
-use Rattle.ensemble.specs.declared.Mixed.the-variants.{Place, Refused}
+use Rattle.ensemble.specs.declared.Mixed.the-variants.{Place}
 use Rattle.ensemble.proofs.MixLaws.{mix-sound, mix-capped, block-frames}
 use Rattle.ensemble.proofs.Promise.{promise}
 use Rattle.demands.specs.Demand2.{Acceptable}
-use Rattle.demands.specs.Demand3.{sheetRead, sidesRead, WasRead}
+use Rattle.demands.specs.Demand3.{sheetRead, sidesRead}
 use Rattle.demands.specs.Ensemble.{mixAt, placeTo, mixedOn, reckonMixFrom, Placed, OneMix, Ensemble}
 use Rattle.demands.specs.Reckoning.{putOut}
 use Rattle.demands.proofs.InOrder.{blockOf, InOrder, order-put, order-count}

@@ -3,15 +3,15 @@
 use Prim.Native.Nat.{ℕ}
 use mathlib.Core.List.{List, [], _∷_, _++_}
 use mathlib.Core.Logic.{_⊎_, inl, inr}
-use mathlib.Core.Path.{_≡_, refl, ap}
+use mathlib.Core.Path.{_≡_, refl}
 use lib.IntN.{ℤ}
 use lib.ListN.{length}
 use Rattle.laws.specs.Among.{Among}
 use Rattle.laws.proofs.Cases.{impossible}
 use Rattle.refusal.specs.Numbers.{entryCount}
 use Rattle.refusal.specs.Outcome.{Outcome, gives, refuses}
-use Rattle.refusal.specs.Rules.{Rule, Holds, NoneHolds}
-use Rattle.refusal.proofs.RuleLaws.{first-holds}
+use Rattle.refusal.specs.Rules.{Holds, NoneHolds}
+use Rattle.refusal.proofs.RuleLaws.{first-holds, none-not, holds-either}
 use Rattle.sheet.specs.Read.{readSheet}
 use Rattle.sheet.specs.Voice.{Voice}
 use Rattle.body_read.specs.Sides.{Sides}
@@ -29,22 +29,6 @@ use Rattle.demands.specs.Demand1.{mixNumbers, sheetNumbers}
 use Rattle.demands.specs.Ensemble.{readMixNumbers}
 use Rattle.demands.proofs.NumberLaws.{one-of, all-of, holding-among}
 use Rattle.demands.proofs.WriteNumbers.{sheet-number}
-
--- ---- rules of two lists
-
-holds-either : (n : ℕ) (rs qs : List Rule) → Holds n (rs ++ qs) → Holds n rs ⊎ Holds n qs
-holds-either n [] qs h = inr h
-holds-either n (r ∷ rs) qs (inl here) = inl (inl here)
-holds-either n (r ∷ rs) qs (inr later) = go (holds-either n rs qs later)
-  where
-    go : Holds n rs ⊎ Holds n qs → Holds n (r ∷ rs) ⊎ Holds n qs
-    go (inl h) = inl (inr h)
-    go (inr h) = inr h
-
-none-not : (n : ℕ) (rs : List Rule) → NoneHolds rs → Holds n rs → ⊥
-none-not n [] none h = h
-none-not n (r ∷ rs) none (inl here) = impossible cc
-none-not n (r ∷ rs) none (inr later) = none-not n rs (none .1) later
 
 -- ---- the rules of a mix, part by part
 

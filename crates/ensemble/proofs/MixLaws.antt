@@ -6,8 +6,8 @@
 --     mix-capped                    a call from past 4,294,967,295 is the one from there
 --     by-score, by-sheet, mix-sound a call on a sheet: refused by the score, by the sheet, or as on the sheet's voice
 -- Assumes nothing.
-use Prim.Native.Nat.{ℕ, _+_, _/_, _≤_, min}
-use mathlib.Core.Bool.{Bool, true, false, cond}
+use Prim.Native.Nat.{ℕ, _+_, _/_, min}
+use mathlib.Core.Bool.{Bool, true, false}
 use mathlib.Core.List.{List}
 use mathlib.Core.Path.{_≡_, refl, sym, _∙_}
 use native.Mathlib.Omega.{arith}

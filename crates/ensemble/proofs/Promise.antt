@@ -1,16 +1,16 @@
 -- What is promised of a mix.
 -- Assumes nothing.
-use Prim.Native.Nat.{ℕ, _≤_}
+use Prim.Native.Nat.{ℕ}
 use mathlib.Core.Bool.{Bool, true, false}
-use mathlib.Core.List.{List, [], _∷_}
-use mathlib.Core.Logic.{_⊎_, inl, inr}
+use mathlib.Core.List.{List}
+use mathlib.Core.Logic.{inl, inr}
 use mathlib.Core.Path.{_≡_, refl, sym, _∙_}
 use borrow.Author.Tests.{eqb-true, eqb-false}
 use lib.Dec.{eqb}
 use lib.ListN.{length}
 use Rattle.laws.proofs.Cases.{impossible}
 use Rattle.refusal.specs.Outcome.{Outcome, gives, refuses}
-use Rattle.refusal.specs.Rules.{Holds, NoneHolds, firstHolding}
+use Rattle.refusal.specs.Rules.{NoneHolds, firstHolding}
 use Rattle.refusal.proofs.RuleLaws.{none-holds, first-holds}
 use Rattle.sheet.specs.Judge.{judged}
 use Rattle.sheet.specs.Read.{readSheet}

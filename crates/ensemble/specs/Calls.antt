@@ -4,7 +4,7 @@ use mathlib.Core.List.{List, [], _∷_, _++_}
 use lib.IntN.{ℤ}
 use Rattle.body_read.specs.Sides.{Sides}
 use Rattle.ensemble_score.specs.declared.Entry.{Entry}
-use Rattle.ensemble.specs.Mix.{MixResult, afterMix}
+use Rattle.ensemble.specs.Mix.{afterMix}
 use Rattle.ensemble.specs.declared.Mixed.{Mixed}
 use Rattle.ensemble.specs.declared.Mixed.the-variants.{Place, Refused}
 

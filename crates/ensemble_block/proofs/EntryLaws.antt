@@ -6,13 +6,13 @@
 -- Assumes nothing.
 use Prim.Native.Nat.{ℕ, _+_, _-_, _%_, _≤_, _<_}
 use mathlib.Core.Bool.{Bool, true, false}
-use mathlib.Core.List.{List, [], _∷_, _++_}
 use mathlib.Core.Path.{_≡_, refl, ap, _∙_}
 use native.Mathlib.Omega.{arith}
 use borrow.Author.Tests.{le-leb, lt-leb, leb-true, leb-false, ne-eqb}
 use lib.Dec.{leb}
 use lib.ListN.{replicate}
-use Rattle.refusal.specs.Rules.{Rule, firstHolding, NoneHolds}
+use Rattle.refusal.proofs.RuleLaws.{none-join, none-first}
+use Rattle.refusal.specs.Rules.{firstHolding, NoneHolds}
 use Rattle.sheet.specs.Voice.{Voice}
 use Rattle.body_read.specs.Sides.{Sides}
 use Rattle.voice_rules.specs.Rules.{voiceRules}
@@ -74,15 +74,6 @@ module _ (v : Voice) (s : Sides) (rate : ℕ) (e : Entry) where
 
 -- ---- the rules
 
-none-join : (rs qs : List Rule) → NoneHolds rs → NoneHolds qs → NoneHolds (rs ++ qs)
-none-join [] qs none more = more
-none-join (r ∷ rs) qs none more = (none .0, none-join rs qs (none .1) more)
-
-first-none-holds : (rs : List Rule) → NoneHolds rs → firstHolding rs ≡ 0
-unfolding firstHolding
-first-none-holds [] none = refl
-first-none-holds (r ∷ rs) none = rw (none .0) (first-none-holds rs (none .1))
-
 module _ (v : Voice) (rate at : ℕ) (e : Entry) where
   -- the key-up isn't ahead of the frames before the stretch
   key-then : keyUpAhead (keyAt at e) (at - e .start) ≡ false
@@ -107,4 +98,4 @@ module _ (v : Voice) (rate at : ℕ) (e : Entry) where
       let from-octave = none-join (octaveRules v (e .octave)) (fromPlaces v left right n m places) (entry .0, tt) from-places in
       let from-sequence = none-join (sequenceRules v) (fromOctave v left right n m places) sequence from-octave in
       let all = none-join (voiceRules v left right) (fromSequence v left right n m places) voice from-sequence in
-      first-none-holds (fillRules v left right n m places) (rw (rules-are v left right n m places) all)
+      none-first (fillRules v left right n m places) (rw (rules-are v left right n m places) all)

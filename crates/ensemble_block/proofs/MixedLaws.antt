@@ -1,5 +1,5 @@
 -- Mixed frames: no law elsewhere unfolds `mixedFrame` and `allTogether`.
---     mixed-is, mixed-last              a mixed frame up to 4,294,967,295, and silence from there on
+--     mixed-last, mixed-is              silence from mixed frame 4,294,967,295 on, and a frame up to there
 --     no-entry, one-entry               of no entries: silence; of one that starts at 0: its note
 --     none-together, next-together      no frames at once, and one more
 --     held-frames, plus-frames          the values of frames, held, and added to those of others
@@ -39,13 +39,13 @@ next-together f fs = refl
 -- ---- a mixed frame
 
 module _ (v : Voice) (s : Sides) (rate : ℕ) (score : List Entry) (m : ℕ) where
-  pub mixed-is : m < 4294967295 → mixedFrame v s rate score m ≡ heldFrame (allTogether (map (entryFrame v s rate m) score))
-  unfolding mixedFrame
-  mixed-is h = rw lt-ltb
-
   pub mixed-last : 4294967295 ≤ m → mixedFrame v s rate score m ≡ silent
   unfolding mixedFrame
   mixed-last h = rw le-ltb
+
+  pub mixed-is : m < 4294967295 → mixedFrame v s rate score m ≡ heldFrame (allTogether (map (entryFrame v s rate m) score))
+  unfolding mixedFrame
+  mixed-is h = rw lt-ltb
 
 pub no-entry : (v : Voice) (s : Sides) (rate m : ℕ) → mixedFrame v s rate [] m ≡ silent
 no-entry v s rate m = go (ltb m 4294967295) refl

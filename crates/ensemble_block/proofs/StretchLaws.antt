@@ -58,16 +58,16 @@ all-at P [] i d all h = absurd (not-suc-le-zero h)
 all-at P (a ∷ as′) zero d all h = all .0
 all-at P (a ∷ as′) (suc i) d all h = all-at P as′ i d (all .1) (le-of-suc-le-suc h)
 
-pub stretch-none : (at end next : ℕ) → at < end → next ≡ min end (at + 256) → StretchTo [] at end next
-stretch-none at end next some is = record { some = omega arith; within = omega arith; short = omega arith; calm = tt }
+pub stretch-none : (at end most next : ℕ) → at < end → 0 < most → next ≡ min end (at + most) → StretchTo [] at end most next
+stretch-none at end most next some room is = record { some = omega arith; within = omega arith; short = omega arith; calm = tt }
 
-pub stretch-all : (score : List Entry) (at end i next : ℕ) → length score ≤ i → StretchTo (take i score) at end next → StretchTo score at end next
-stretch-all score at end i next h s = rw (take-all i score h) at s
+pub stretch-all : (score : List Entry) (at end most i next : ℕ) → length score ≤ i → StretchTo (take i score) at end most next → StretchTo score at end most next
+stretch-all score at end most i next h s = rw (take-all i score h) at s
 
-pub stretch-more : (count : ℕ) (numbers : List ℕ) (at end i next next′ : ℕ) (e : Entry) → i < count → e ≡ entryIn numbers i
+pub stretch-more : (count : ℕ) (numbers : List ℕ) (at end most i next next′ : ℕ) (e : Entry) → i < count → e ≡ entryIn numbers i
     → next′ ≡ cutAt at (cutAt at next (e .start)) (e .«key_up»)
-    → StretchTo (take i (listed count numbers)) at end next → StretchTo (take (i + 1) (listed count numbers)) at end next′
-stretch-more count numbers at end i next next′ e there is cut s =
+    → StretchTo (take i (listed count numbers)) at end most next → StretchTo (take (i + 1) (listed count numbers)) at end most next′
+stretch-more count numbers at end most i next next′ e there is cut s =
     let seen = take i (listed count numbers) in
     let one-more : take (i + 1) (listed count numbers) ≡ seen ++ (e ∷ []) = rw is (taken-next numbers count i there) in
     let a = cut-is at next (e .start) (s .some) in

@@ -31,11 +31,11 @@ pub record Calm (at end : ℕ) (e : Entry) : Type 0 where
   pub starts : at < e .start → end ≤ e .start
   pub comes-up : at < e .«key_up» → end ≤ e .«key_up»
 
--- the stretch from mixed frame `at` on ends with `next`: it is calm, has at most 256 frames, and doesn't pass the block's end
-pub record StretchTo (score : List Entry) (at end next : ℕ) : Type 0 where
+-- the stretch from mixed frame `at` on ends with `next`: it is calm, has at most `most` frames, and doesn't pass the block's end
+pub record StretchTo (score : List Entry) (at end most next : ℕ) : Type 0 where
   pub some : at < next
   pub within : next ≤ end
-  pub short : next ≤ at + 256
+  pub short : next ≤ at + most
   pub calm : All (Calm at next) score
 
 -- an end, or an event that lies past `at` and before it

@@ -25,12 +25,18 @@ fn cut_at(at: usize, end: usize, event: u32) -> usize
     least(end, frame)
 }
 
-// The end of the stretch from mixed frame `at` on.
-pub(crate) fn stretch_end(count: usize, numbers: &[u32; 80], at: usize, end: usize) -> usize
-    requires { ⌜ (at < end) × (end < 2 ^ 32) × (count ≤ 16) ⌝ }
-    ensures { λ r. ⌜ StretchTo (listed count (now (numbers .entry))) at end r ⌝ }
+// The end of the stretch from mixed frame `at` on, which has at most `most` frames.
+pub(crate) fn stretch_end(
+    count: usize,
+    numbers: &[u32; 80],
+    at: usize,
+    end: usize,
+    most: usize,
+) -> usize
+    requires { ⌜ (at < end) × (end < 2 ^ 32) × (count ≤ 16) × (0 < most) × (most < 2 ^ 32) ⌝ }
+    ensures { λ r. ⌜ StretchTo (listed count (now (numbers .entry))) at end most r ⌝ }
 {
-    let mut next = least(end, at + 256);
+    let mut next = least(end, at + most);
     let mut i = 0;
     while i < count {
         let e = nth_entry(numbers, i);

@@ -1,12 +1,10 @@
 -- The rules of a mix, by their parts and entry by entry.
 --     order-is, entries-are                          the rules of a score that has a first entry; order-none, entries-none of one that has none
 --     held-first                                     the first that holds of a note that begins and is held: no key-up is ahead
---     numbered-join, none-join                       of two lists joined
 --     score-numbered, play-numbered, rules-numbered  none has the number 0
 --     play-are                                       those that follow the score's own: the voice's, the sequence's, the places' and the entries'
 --     mix-first, mix-score                           the first that holds: of the score's own, or else of the others
 --     mix-holds                                      one that holds is among the score's own or the others
---     mix-parts, parts-mix                           none holds exactly if none of either does
 --     play-parts                                     where none holds, none of a part does, nor of an entry
 --     score-small, score-ends                        what the score's own rules leave: at most sixteen entries, no key-up before its start
 --     mix-numbers                                    the numbers, in the order in which they are judged
@@ -21,7 +19,7 @@ use lib.Dec.{ltb}
 use lib.ListN.{length}
 use Rattle.refusal.specs.Numbers.{noOctave, startOrder, earlyKeyUp}
 use Rattle.refusal.specs.Rules.{Rule, rule, firstHolding, numbersOf, Holds, NoneHolds}
-use Rattle.refusal.proofs.RuleLaws.{Numbered, numbered-by, first-join, first-stands, none-parts}
+use Rattle.refusal.proofs.RuleLaws.{Numbered, numbered-by, first-join, first-stands, none-parts, numbered-join}
 use Rattle.header.specs.Octaves.{octaveThere}
 use Rattle.header.specs.declared.«voice_header».VoiceHeader.{VoiceHeader}
 use Rattle.sheet.specs.Allowed.{All}
@@ -70,10 +68,6 @@ held-first h octave velocity step rate = refl
 
 -- ---- none has the number 0
 
-pub numbered-join : (rs qs : List Rule) → Numbered rs → Numbered qs → Numbered (rs ++ qs)
-numbered-join [] qs first next = next
-numbered-join (r ∷ rs) qs first next = (first .0, numbered-join rs qs (first .1) next)
-
 order-numbered : (before : ℕ) (score : List Entry) → Numbered (orderRules before score)
 order-numbered before [] = rw order-none tt
 order-numbered before (e ∷ es) =
@@ -88,10 +82,6 @@ entries-numbered v rate (e ∷ es) =
     rw entries-are (numbered-join (entryRules v rate e) (entriesRules v rate es) (entry-numbered v rate e) (entries-numbered v rate es))
 
 -- ---- none holds
-
-pub none-join : (rs qs : List Rule) → NoneHolds rs → NoneHolds qs → NoneHolds (rs ++ qs)
-none-join [] qs first next = next
-none-join (r ∷ rs) qs first next = (first .0, none-join rs qs (first .1) next)
 
 entries-parts : (v : Voice) (rate : ℕ) (score : List Entry) → NoneHolds (entriesRules v rate score) → All (λ e. NoneHolds (entryRules v rate e)) score
 entries-parts v rate [] none = tt
@@ -155,12 +145,6 @@ module _ (v : Voice) (left right : ℕ) (score : List Entry) (rate places : ℕ)
 
   pub mix-holds : (n : ℕ) → Holds n (mixRules v left right score rate places) → Holds n (scoreRules score ++ playRules v left right score rate places)
   mix-holds n h = rw rules-are at h
-
-  pub mix-parts : NoneHolds (mixRules v left right score rate places) → NoneHolds (scoreRules score) × NoneHolds (playRules v left right score rate places)
-  mix-parts none = none-parts (scoreRules score) (playRules v left right score rate places) (rw rules-are at none)
-
-  pub parts-mix : NoneHolds (scoreRules score) × NoneHolds (playRules v left right score rate places) → NoneHolds (mixRules v left right score rate places)
-  parts-mix none = rw rules-are (none-join (scoreRules score) (playRules v left right score rate places) (none .0) (none .1))
 
   pub play-parts : NoneHolds (playRules v left right score rate places)
       → NoneHolds (voiceRules v left right) × NoneHolds (sequenceRules v) × NoneHolds (placeRules places) × All (λ e. NoneHolds (entryRules v rate e)) score

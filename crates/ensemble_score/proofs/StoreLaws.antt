@@ -14,10 +14,9 @@ use mathlib.Core.Bool.{Bool, true, false}
 use lib.Dec.{ltb}
 use lib.ListN.{length, set, getD, length-set}
 use lib.Seq.{sets, getD-set-same, getD-set-other}
-use Rattle.ensemble_score.specs.Score.{blank, entryIn, FourFrom, EntryPut, FourPut, TakenFrom}
+use Rattle.ensemble_score.specs.Score.{blank, entryIn, FourFrom, EntryPut, FourPut}
 use Rattle.ensemble_score.specs.declared.Entry.{Entry}
 use Rattle.ensemble_score.specs.declared.Four.{Four}
-use Rattle.ensemble_score.specs.declared.Score.{Score}
 
 -- ---- numbers stored in a row
 

@@ -25,8 +25,8 @@ struct Four {
     fourth: Entry,
 }
 
-// A score taken over from a slice: its length, and five numbers for each of its first sixteen entries (start, key-up, step, octave, velocity),
-// zeros where it has fewer. Numbers can be lent to covered code; an array of structs would be copied for each look at it.
+// A score taken over from a slice: its length, and five numbers for each of its first sixteen entries (start, key-up, step, octave, velocity).
+// What stands past its end doesn't matter. Numbers can be lent to covered code; an array of structs would be copied for each look at it.
 pub struct Score {
     pub count: usize,
     pub numbers: [u32; 80],
@@ -103,14 +103,23 @@ fn put_four(numbers: &mut [u32], i: usize, f: Four)
     put_entry(numbers, i + 3, fourth);
 }
 
-// The numbers of sixteen entries.
+// The numbers of sixteen entries. A short score is done sooner.
 fn score_by(count: usize, a: Four, b: Four, c: Four, d: Four) -> Score
     ensures { λ r. ⌜ ((score : List Entry) → count ≡ length score → FourFrom score 0 a → FourFrom score 4 b → FourFrom score 8 c → FourFrom score 12 d → TakenFrom score r) ⌝ }
 {
     let mut numbers = [0u32; 80];
     put_four(&mut numbers, 0, a);
+    if count <= 4 {
+        return Score { count, numbers };
+    }
     put_four(&mut numbers, 4, b);
+    if count <= 8 {
+        return Score { count, numbers };
+    }
     put_four(&mut numbers, 8, c);
+    if count <= 12 {
+        return Score { count, numbers };
+    }
     put_four(&mut numbers, 12, d);
     Score { count, numbers }
 }

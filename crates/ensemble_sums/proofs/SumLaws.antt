@@ -1,5 +1,5 @@
 -- Sums value by value, how large they get, and a sum held within 16 bits.
---     plus-length, plus-longer                       how many sums there are
+--     plus-longer                                    how many sums there are
 --     plus-take, plus-at                             the first n sums, and the one at a place
 --     plus-join, plus-zeros, added-zeros             sums of two parts, of zeros and values, and of values followed by zeros
 --     left-at, all-written                           a buffer written from its front: what is not reached yet, and what it holds in the end
@@ -26,9 +26,6 @@ unfolding plus
 length-least [] ys = omega arith
 length-least (x ∷ xs) [] = omega arith
 length-least (x ∷ xs) (y ∷ ys) = omega (arith, length-least xs ys)
-
-pub plus-length : (xs ys : List ℤ) → length xs ≡ length ys → length (plus xs ys) ≡ length ys
-plus-length xs ys e = omega (arith, length-least xs ys)
 
 pub plus-longer : (i : ℕ) (xs ys : List ℤ) → i < length xs → i < length ys → i < length (plus xs ys)
 plus-longer i xs ys h k = omega (arith, length-least xs ys)

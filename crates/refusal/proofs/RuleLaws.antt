@@ -4,7 +4,10 @@
 --     first-here, first-later      of a rule before others: that rule where it holds, else the first of the others
 --     first-stands, first-join     of two lists joined: of the first list where one of it holds, else of the second
 --     none-holds, first-holds      none holds where it is 0, else one with that number does
---     none-parts                   of two lists joined none holds exactly if none of either does
+--     none-parts, none-join        of two lists joined none holds exactly if none of either does
+--     holds-either, none-not       of two lists joined one that holds is of either; none is where none holds
+--     none-first                   where none holds it is 0
+--     numbered-join                two lists joined
 --     numbered-by                  by a test of the numbers
 --     by-number, by-zero           what an outcome says of the number
 --     answered-by                  the answer with a buffer: the first of all rules, 20 last
@@ -12,7 +15,7 @@
 use Prim.Native.Nat.{ℕ}
 use mathlib.Core.Bool.{Bool, true, false, cond, not, _&&_}
 use mathlib.Core.List.{List, [], _∷_, _++_}
-use mathlib.Core.Logic.{inl, inr}
+use mathlib.Core.Logic.{_⊎_, inl, inr}
 use mathlib.Core.Path.{_≡_, refl, sym, _∙_}
 use borrow.Author.Tests.{eqb-true, eqb-false, ltb-true, ltb-false, le-leb, lt-leb}
 use lib.Dec.{T, eqb, ltb}
@@ -89,7 +92,34 @@ pub none-parts : (rs qs : List Rule) → NoneHolds (rs ++ qs) → NoneHolds rs �
 none-parts [] qs none = (tt, none)
 none-parts (r ∷ rs) qs none = let later = none-parts rs qs (none .1) in ((none .0, later .0), later .1)
 
+pub none-join : (rs qs : List Rule) → NoneHolds rs → NoneHolds qs → NoneHolds (rs ++ qs)
+none-join [] qs first next = next
+none-join (r ∷ rs) qs first next = (first .0, none-join rs qs (first .1) next)
+
+pub none-first : (rs : List Rule) → NoneHolds rs → firstHolding rs ≡ 0
+unfolding firstHolding
+none-first [] none = refl
+none-first (r ∷ rs) none = rw (none .0) (none-first rs (none .1))
+
+pub none-not : (n : ℕ) (rs : List Rule) → NoneHolds rs → Holds n rs → ⊥
+none-not n [] none h = h
+none-not n (r ∷ rs) none (inl here) = impossible cc
+none-not n (r ∷ rs) none (inr later) = none-not n rs (none .1) later
+
+pub holds-either : (n : ℕ) (rs qs : List Rule) → Holds n (rs ++ qs) → Holds n rs ⊎ Holds n qs
+holds-either n [] qs h = inr h
+holds-either n (r ∷ rs) qs (inl here) = inl (inl here)
+holds-either n (r ∷ rs) qs (inr later) = go (holds-either n rs qs later)
+  where
+    go : Holds n rs ⊎ Holds n qs → Holds n (r ∷ rs) ⊎ Holds n qs
+    go (inl h) = inl (inr h)
+    go (inr h) = inr h
+
 -- ---- numbers
+
+pub numbered-join : (rs qs : List Rule) → Numbered rs → Numbered qs → Numbered (rs ++ qs)
+numbered-join [] qs first next = next
+numbered-join (r ∷ rs) qs first next = (first .0, numbered-join rs qs (first .1) next)
 
 -- the test, which reads the numbers alone
 abbrev pub areNumbered : List Rule → Bool

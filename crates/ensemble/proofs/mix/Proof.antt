@@ -26,7 +26,6 @@ use denote.Enum.Laws as EL
 use denote.Ref.{now}
 use denote.Signature.{typesAt}
 use denote.Slice.{slice-vals, shr-slice-tells, mut-slice-tells}
-use denote.Struct.Laws as LL
 use denote.Triple.Clauses.{atExit, ensured}
 use denote.Triple.Entry.{Args, Vals, alive, onEntry}
 use denote.Triple.Spec.{Meets, tripleOf}
@@ -36,8 +35,6 @@ use Rattle.ensemble_score.specs.declared.Score.{Score}
 use Rattle.ensemble_score.specs.Score.{TakenFrom}
 use Rattle.ensemble_score.proofs.CallRule.{contractOf}
 use Rattle.ensemble_score.proofs.Entry as T
-use Rattle.ensemble_score.proofs.Score as S
-use Rattle.ensemble_score.proofs.Score.Laws as S′
 use Rattle.ensemble_score.proofs.score_of.Symbol as score-of-def
 use Rattle.ensemble_score.proofs.score_of.Symbol.{name as #ensemble_score·score-of}
 use Rattle.ensemble_score.proofs.score_of.Met as score-of-thm

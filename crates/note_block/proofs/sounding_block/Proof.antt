@@ -1,7 +1,6 @@
 -- `note_block::sounding_block` meets its contract: path and gains are the voice's, and `play_stage` plays them.
 -- Assumes nothing.
 use Prim.Native.Nat.{ℕ, _≤_, _<_, _^_}
-use mathlib.Core.Path.{_≡_}
 use native.Mathlib.Omega.{arith}
 use borrow.Author.Needs.{needs}
 use lib.ListN.{length, getD}

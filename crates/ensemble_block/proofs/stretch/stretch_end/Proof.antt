@@ -13,10 +13,10 @@ use Rattle.ensemble_block.proofs.stretch.stretch_end.Statement.{stateme
 use Rattle.ensemble_block.proofs.stretch.stretch_end.Tie as tie
 
 abbrev Inv-loop : tie.InvT-loop
-Inv-loop count numbers at end next₀ i₀ next i = (i ≤ count) × StretchTo (take i (listed count numbers)) at end next
+Inv-loop count numbers at end most next₀ i₀ next i = (i ≤ count) × StretchTo (take i (listed count numbers)) at end most next
 
 abbrev μ-loop : tie.MeasureT-loop
-μ-loop count numbers at end next₀ i₀ next i = count - i
+μ-loop count numbers at end most next₀ i₀ next i = count - i
 
 add-least : tie.Need-add-least Inv-loop μ-loop
 add-least c = search needs
@@ -27,7 +27,7 @@ least-requires c κs = search needs
 loop-holds : tie.Need-loop-holds Inv-loop μ-loop
 loop-holds c =
     let s = c .before in
-    (omega arith, stretch-none (s .args .at) (s .args .end) (c .least .result) (s .pre .0) (c .least .ensures))
+    (omega arith, stretch-none (s .args .at) (s .args .end) (s .args .most) (c .least .result) (s .pre .0) (s .pre .3) (c .least .ensures))
 
 nth-entry-requires : tie.Need-nth-entry-requires Inv-loop μ-loop
 nth-entry-requires c κs = search needs
@@ -50,7 +50,7 @@ loop-again c =
     let o = k .before .before .loop in
     let a = k .before .before .before .before .args in
     let cut = c .cut-at2 .ensures ∙ ap (λ (n : ℕ). cutAt (a .at) n (k .nth-entry .result .«key_up»)) (c .before .cut-at .ensures) in
-    (search needs, stretch-more (a .count) (a .numbers .now) (a .at) (a .end) (o .i) (o .next) _ _ (search needs) (k .nth-entry .ensures) cut (o .inv .1))
+    (search needs, stretch-more (a .count) (a .numbers .now) (a .at) (a .end) (a .most) (o .i) (o .next) _ _ (search needs) (k .nth-entry .ensures) cut (o .inv .1))
 
 returns : tie.Need-returns Inv-loop μ-loop
 returns c =
@@ -58,7 +58,7 @@ returns c =
     let a = c .before .before .before .args in
     let score = listed (a .count) (a .numbers .now) in
     let all : length score ≤ o .i = omega (arith, listed-length (a .numbers .now) (a .count), c .loop-test .left) in
-    stretch-all score (a .at) (a .end) (o .i) (o .next) all (o .inv .1)
+    stretch-all score (a .at) (a .end) (a .most) (o .i) (o .next) all (o .inv .1)
 
 pub stretch-end-spec : {M : Type 1} → statement M
 stretch-end-spec =

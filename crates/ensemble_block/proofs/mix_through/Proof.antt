@@ -1,4 +1,4 @@
--- `ensemble_block::mixed_block` meets its contract. The invariant: the frames up to `at` stand at the front of the buffer, and the sums are 0.
+-- `ensemble_block::mix_through` meets its contract. The invariant: the frames up to `at` stand at the front of the buffer, and the sums are 0.
 -- Assumes nothing.
 use Prim.Native.Nat.{ℕ, _+_, _-_, _*_, _/_, _≤_}
 use mathlib.Core.List.{List}
@@ -6,26 +6,26 @@ use mathlib.Core.Path.{_≡_, refl, ap, _∙_}
 use native.Mathlib.Omega.{arith}
 use borrow.Author.Needs.{needs}
 use lib.IntN.{ℤ, pos}
-use lib.ListN.{length, take, drop, replicate}
+use lib.ListN.{length, take, drop, replicate, length-replicate}
 use Rattle.sheet.specs.Read.{readSheet}
 use Rattle.ensemble_score.specs.Score.{listed}
 use Rattle.ensemble_block.specs.Mixed.{mixedFrame}
 use Rattle.ensemble_block.proofs.BlockLaws.{filledTo, filled-none, filled-more, filled-whole, filled-length, part-length, take-zeros, zeros-back, stretch-ready, less-left}
 use Rattle.ensemble_block.proofs.MixedLaws.{mixed-last}
 use Rattle.note_frame.specs.declared.chain.Frame.{Frame}
-use Rattle.ensemble_block.proofs.mixed_block.Statement.{statement}
-use Rattle.ensemble_block.proofs.mixed_block.Tie as tie
+use Rattle.ensemble_block.proofs.mix_through.Statement.{statement}
+use Rattle.ensemble_block.proofs.mix_through.Tie as tie
 
 abbrev Inv-loop : tie.InvT-loop
-Inv-loop count numbers rate place sheet l left right out₀ first room end sums₀ at₀ out sums at =
+Inv-loop count numbers rate place sheet l left right sums₀ out₀ first room end most at₀ sums out at =
     (first ≤ at)
     × (at ≤ end)
     × (length out ≡ length out₀)
     × (out ≡ filledTo (mixedFrame (readSheet sheet) (record { left = left; right = right }) rate (listed count numbers)) first out₀ at)
-    × (sums ≡ replicate 512 (pos 0))
+    × (sums ≡ replicate (length sums₀) (pos 0))
 
 abbrev μ-loop : tie.MeasureT-loop
-μ-loop count numbers rate place sheet l left right out₀ first room end sums₀ at₀ out sums at = end - at
+μ-loop count numbers rate place sheet l left right sums₀ out₀ first room end most at₀ sums out at = end - at
 
 -- the mixed frames
 abbrev frames : tie.Start Inv-loop μ-loop → ℕ → Frame
@@ -38,8 +38,12 @@ turn c = c .before .before
 abbrev start : tie.At-loop Inv-loop μ-loop → tie.Start Inv-loop μ-loop
 start c = c .before .before .before
 
-abbrev mixed : tie.After-sums2 Inv-loop μ-loop → tie.After-mix-stretch Inv-loop μ-loop
+abbrev mixed : tie.After-sums Inv-loop μ-loop → tie.After-mix-stretch Inv-loop μ-loop
 mixed c = c .before .before
+
+-- there are as many sums as before
+kept : (c : tie.At-loop Inv-loop μ-loop) → length (c .loop .sums) ≡ length (start c .args .sums .now)
+kept c = ap length (c .loop .inv .4) ∙ length-replicate (length (start c .args .sums .now)) (pos 0)
 
 -- a stretch: its part of the buffer, and of the sums
 module _ (k : tie.After-stretch-end Inv-loop μ-loop) where
@@ -64,8 +68,15 @@ module _ (k : tie.After-stretch-end Inv-loop μ-loop) where
   room : 2 * (next - place) ≤ length (start (turn k) .args .out .now)
   room = omega (arith, turn k .before .least .ensures, k .stretch-end .ensures .within)
 
-  few : 2 * (next - at) - 0 ≤ 512
+  -- all of the sums
+  abbrev many : ℕ
+  many = length (start (turn k) .args .sums .now)
+
+  few : 2 * (next - at) ≤ many
   few = omega (arith, k .stretch-end .ensures .short)
+
+  few-lent : 2 * (next - at) - 0 ≤ many
+  few-lent = omega (arith, few)
 
   part-long : length part ≡ 2 * (next - at)
   part-long =
@@ -77,7 +88,7 @@ module _ (k : tie.After-stretch-end Inv-loop μ-loop) where
   totals-are : totals ≡ replicate (2 * (next - at)) (pos 0)
   totals-are =
       let all : 2 * (next - at) - 0 ≡ 2 * (next - at) = omega arith in
-      take-zeros (2 * (next - at) - 0) 512 (turn k .loop .sums) few (turn k .loop .inv .4) ∙ ap (λ (n : ℕ). replicate n (pos 0)) all
+      take-zeros (2 * (next - at) - 0) many (turn k .loop .sums) few-lent (turn k .loop .inv .4) ∙ ap (λ (n : ℕ). replicate n (pos 0)) all
 
 sub-room : tie.Need-sub-room Inv-loop μ-loop
 sub-room c = search needs
@@ -91,7 +102,7 @@ add-end c = search needs
 loop-holds : tie.Need-loop-holds Inv-loop μ-loop
 loop-holds c =
     let a = c .before .before .args in
-    (omega arith, omega arith, refl, filled-none (frames (c .before .before)) (a .place) (a .out .now), refl)
+    (omega arith, omega arith, refl, filled-none (frames (c .before .before)) (a .place) (a .out .now), c .before .before .pre .3)
 
 stretch-end-requires : tie.Need-stretch-end-requires Inv-loop μ-loop
 stretch-end-requires c κs = search needs
@@ -129,11 +140,11 @@ part-stretch-end c = search needs
 sub-totals : tie.Need-sub-totals Inv-loop μ-loop
 sub-totals c = search needs
 
-part-sums-start : tie.Need-part-sums-start Inv-loop μ-loop
-part-sums-start c = search needs
+part-totals-start : tie.Need-part-totals-start Inv-loop μ-loop
+part-totals-start c = search needs
 
-part-sums-end : tie.Need-part-sums-end Inv-loop μ-loop
-part-sums-end c = omega (arith, few (c .before), ap length (turn (c .before) .loop .inv .4))
+part-totals-end : tie.Need-part-totals-end Inv-loop μ-loop
+part-totals-end c = rw (kept (turn (c .before))) (few (c .before))
 
 mix-stretch-requires : tie.Need-mix-stretch-requires Inv-loop μ-loop
 mix-stretch-requires c κs =
@@ -141,7 +152,7 @@ mix-stretch-requires c κs =
     let s = start (turn k) in
     let a = s .args in
     let ready =
-    stretch-ready (listed (a .count) (a .numbers .now)) (a .rate) (at k) (next k) _ (a .sheet .now) (a .l) (a .left .now) (a .right .now) (totals k) (part k)
+    stretch-ready (listed (a .count) (a .numbers .now)) (a .rate) (at k) (next k) _ _ (a .sheet .now) (a .l) (a .left .now) (a .right .now) (totals k) (part k)
     (s .pre .0) (k .stretch-end .ensures) (in-time k) (part-long k) (totals-are k) in
     (ready, s .pre .1)
 
@@ -165,7 +176,7 @@ loop-again c =
       e .within,
       ap length filled ∙ filled-length (frames s) (place k) (a .out .now) (next k) (room k),
       filled,
-      zeros-back (2 * (next k - at k) - 0) 512 (o .sums) _ (few k) (o .inv .4) (m .mix-stretch .ensures .1),
+      zeros-back (2 * (next k - at k) - 0) (many k) (o .sums) _ (few-lent k) (o .inv .4) (m .mix-stretch .ensures .1),
     )
 
 sub-silence-from : tie.Need-sub-silence-from Inv-loop μ-loop
@@ -178,7 +189,10 @@ silence-from-requires : tie.Need-silence-from-requires Inv-loop μ-loop
 silence-from-requires c κs = search needs
 
 same-length : tie.Need-same-length Inv-loop μ-loop
-same-length c = search needs
+same-length c = kept (c .before .before .before .before)
+
+same-length-2 : tie.Need-same-length-2 Inv-loop μ-loop
+same-length-2 c = search needs
 
 returns : tie.Need-returns Inv-loop μ-loop
 returns c =
@@ -192,8 +206,8 @@ returns c =
     filled-whole (frames s) (a .place) (a .out .now) ends (omega (arith, s .fits .place)) (s .pre .2) end (ap (λ (n : ℕ). a .place + n) (l .before .least .ensures))
     (o .out) _ (o .inv .3 ∙ ap (filledTo (frames s) (a .place) (a .out .now)) last) (o .inv .2) (c .before .silence-from .ensures)
 
-pub mixed-block-spec : {M : Type 1} → statement M
-mixed-block-spec =
+pub mix-through-spec : {M : Type 1} → statement M
+mix-through-spec =
     tie.close
     (tie.spec
     Inv-loop
@@ -214,8 +228,8 @@ mixed-block-spec =
     part-stretch-start
     part-stretch-end
     sub-totals
-    part-sums-start
-    part-sums-end
+    part-totals-start
+    part-totals-end
     mix-stretch-requires
     loop-less
     loop-again
@@ -223,4 +237,5 @@ mixed-block-spec =
     mul-silence-from
     silence-from-requires
     same-length
+    same-length-2
     returns)
