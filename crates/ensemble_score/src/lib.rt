@@ -103,23 +103,14 @@ fn put_four(numbers: &mut [u32], i: usize, f: Four)
     put_entry(numbers, i + 3, fourth);
 }
 
-// The numbers of sixteen entries. A short score is done sooner.
+// The numbers of sixteen entries.
 fn score_by(count: usize, a: Four, b: Four, c: Four, d: Four) -> Score
     ensures { λ r. ⌜ ((score : List Entry) → count ≡ length score → FourFrom score 0 a → FourFrom score 4 b → FourFrom score 8 c → FourFrom score 12 d → TakenFrom score r) ⌝ }
 {
     let mut numbers = [0u32; 80];
     put_four(&mut numbers, 0, a);
-    if count <= 4 {
-        return Score { count, numbers };
-    }
     put_four(&mut numbers, 4, b);
-    if count <= 8 {
-        return Score { count, numbers };
-    }
     put_four(&mut numbers, 8, c);
-    if count <= 12 {
-        return Score { count, numbers };
-    }
     put_four(&mut numbers, 12, d);
     Score { count, numbers }
 }
