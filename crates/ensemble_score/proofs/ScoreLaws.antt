@@ -1,7 +1,7 @@
 -- The entries of a score that was taken over: how many there are, which they are, and that a score of at most sixteen comes back whole.
 --     listed-length, listed-entry          how many, and which stands at a place
 --     left-next, left-none, taken-next     the entries that a loop has left, or has taken
---     listed-is, taken-listed              a score of at most sixteen is its entries
+--     listed-is, taken-listed              a score of at most sixteen is its entries; every score by value has been taken from some list
 -- Assumes nothing.
 use Prim.Native.Nat.{ℕ, zero, suc, _+_, _≤_, _<_}
 use mathlib.Core.List.{List, [], _∷_, _++_}
@@ -56,8 +56,8 @@ module _ (s : Score) where
       listed-entry (s .numbers) (s .count) i (omega (arith, there, long))
       ∙ taken .entries-are i (omega (arith, there, long, taken .count-is)) (omega (arith, there, long, taken .count-is)))
 
-  -- a score of at most sixteen, however it was made, is taken from its own entries
-  pub taken-listed : s .count ≤ 16 → TakenFrom (listed (s .count) (s .numbers)) s
-  taken-listed few =
+  -- every score by value, however it was made, is taken from its own entries
+  pub taken-listed : TakenFrom (listed (s .count) (s .numbers)) s
+  taken-listed =
       let long = listed-length (s .numbers) (s .count) in
       record { count-is = sym long; entries-are = λ i h there. sym (listed-entry (s .numbers) (s .count) i (omega (arith, there, long))) }

@@ -1,4 +1,4 @@
-// A score: timed notes, lent as a slice of entries. What takes the slice is few and thin; all else has the entries by value.
+// A score: timed notes, lent as a slice of entries. What takes the slice is few and thin; all else has the entries as numbers.
 ghost use mathlib.Core.Path.{_≡_};
 ghost use mathlib.Core.List.{List};
 ghost use Prim.Native.Nat.{_+_, _≤_, _<_};
