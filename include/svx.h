@@ -165,6 +165,20 @@ uint32_t svx_fibonacci_decode_channel(const uint8_t *body, size_t body_len, int8
  * Refused by 20. */
 uint32_t svx_fibonacci_encode_channel(const int8_t *samples, size_t samples_len, uint8_t *out, size_t out_len, uint64_t *length);
 
+/* Difference order, in which a vault stores a channel: each octave for itself, its first sample as it is, then each sample less the one before,
+ * modulo 256 as a signed byte; and of these values those at even places, counted from 0, before those at odd places. The header's lengths
+ * and octave count say where the octaves lie; if one-shot and repeat part are both 0, the channel is one octave of any length. */
+
+/* A channel in difference order, in a buffer as long.
+ * Refused by 13, 18 (the length isn't the octaves' total), 20 in that order. */
+uint32_t svx_difference_order(uint32_t one_shot, uint32_t repeat, uint8_t octaves, const int8_t *samples, size_t samples_len, int8_t *out,
+                              size_t out_len, uint64_t *length);
+
+/* The way back: the channel that these values are the difference order of. There is exactly one, whatever the values are.
+ * Refused by 13, 18, 20 in that order. */
+uint32_t svx_difference_restore(uint32_t one_shot, uint32_t repeat, uint8_t octaves, const int8_t *values, size_t values_len, int8_t *out,
+                                size_t out_len, uint64_t *length);
+
 /* The sheet. */
 
 /* step: 0 a record, 1 the end, 2 refused by 15, 3 refused by 16; the rest is 0 unless step is 0.

@@ -92,6 +92,18 @@ pub fn fibonacci_encode_channel(samples: &[i8], out: &mut [u8]) -> Result<usize,
     one(r, n)
 }
 
+pub fn difference_order(one_shot: u32, repeat: u32, octaves: u8, samples: &[i8], out: &mut [i8]) -> Result<usize, u32> {
+    let mut n = UNSET;
+    let r = unsafe { svx_difference_order(one_shot, repeat, octaves, samples.as_ptr(), samples.len(), out.as_mut_ptr(), out.len(), &mut n) };
+    one(r, n)
+}
+
+pub fn difference_restore(one_shot: u32, repeat: u32, octaves: u8, values: &[i8], out: &mut [i8]) -> Result<usize, u32> {
+    let mut n = UNSET;
+    let r = unsafe { svx_difference_restore(one_shot, repeat, octaves, values.as_ptr(), values.len(), out.as_mut_ptr(), out.len(), &mut n) };
+    one(r, n)
+}
+
 pub fn sheet_record(sheet: &[u8], at: u64) -> Record { unsafe { svx_sheet_record(sheet.as_ptr(), sheet.len(), at) } }
 pub fn sheet_judge(sheet: &[u8]) -> u32 { unsafe { svx_sheet_judge(sheet.as_ptr(), sheet.len()) } }
 pub fn frequency(rate: u16, per_cycle: u32) -> Frequency { unsafe { svx_hi_cycle_frequency_hz(rate, per_cycle) } }

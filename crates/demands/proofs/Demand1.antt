@@ -19,6 +19,7 @@ use Rattle.field.specs.Signed.{sampleOf, byteOf}
 use Rattle.header.specs.Compression.{knownCompression}
 use Rattle.header.specs.Octaves.{totalSamples}
 use Rattle.header.specs.declared.compression.KnownCompression.the-variants as KnownCompression
+use Rattle.header.specs.declared.«voice_header».VoiceHeader.{VoiceHeader}
 use Rattle.small_chunks.specs.Channel.{channelOf}
 use Rattle.small_chunks.specs.Sequence.{segmentValid}
 use Rattle.small_chunks.specs.declared.channel.ParsedChannel.the-variants as ParsedChannel
@@ -41,8 +42,9 @@ use Rattle.voice_read.specs.Parsed.{Lent, ReadResult, lengthsOf, neededBy, fits
 use Rattle.voice_read.specs.declared.chunks.Parsed.the-variants as Parsed
 use Rattle.voice_write.specs.WriteVoice.{writeSheet}
 use Rattle.wave.specs.Wave.{octaveWaveOf}
-use Rattle.demands.specs.Demand1.{readingNumbers, writingNumbers, bodyNumbers, sideNumbers, channelNumbers, fillNumbers, waveNumbers, FillsOrKeeps, Demand1}
-use Rattle.demands.proofs.NumberLaws.{one-of, Within, refused-by}
+use Rattle.vault.specs.DifferenceOrder.{octaveOrder, octaveRestored, eachOctave, channelRules, byOctave, differenceOrder, differenceRestore}
+use Rattle.demands.specs.Demand1.{readingNumbers, writingNumbers, bodyNumbers, sideNumbers, channelNumbers, fillNumbers, waveNumbers, vaultNumbers, FillsOrKeeps, Demand1}
+use Rattle.demands.proofs.NumberLaws.{one-of, Within, rules-within, refused-by}
 use Rattle.demands.proofs.FirstNumbers.{refused-record}
 use Rattle.demands.proofs.DecodeNumbers.{channel-within, body-within}
 use Rattle.demands.proofs.ReadNumbers.{sides-within, reading-within}
@@ -134,6 +136,11 @@ sides-number : (o : Outcome Sides) (n : ℕ) → Within sideNumbers o → sideLe
 sides-number (gives s) n w e = impossible cc
 sides-number (refuses k) n w e = let same : k ≡ n = cc in rw (← same) w
 
+-- a channel, octave by octave, by its rules
+vault-within : (f : List ℤ → List ℤ) (h : VoiceHeader) (channel : List ℤ) → Within vaultNumbers (byOctave f h channel)
+unfolding byOctave
+vault-within f h channel = rules-within vaultNumbers (channelRules h (length channel)) (eachOctave f h channel) tt
+
 -- ---- the demand
 
 pub demand1 : Demand1
@@ -146,6 +153,8 @@ demand1 = record {
   encode-voice = λ sheet sides. fills-or-keeps writingNumbers (writeSheet sheet sides) (writing-within sheet sides);
   octave-wave-length = λ sheet sides k. length-within waveNumbers (octaveWaveOf sheet sides k) (wave-within sheet sides k);
   octave-wave = λ sheet sides k. fills-or-keeps waveNumbers (octaveWaveOf sheet sides k) (wave-within sheet sides k);
+  difference-order = λ h samples. fills-or-keeps vaultNumbers (differenceOrder h samples) (vault-within octaveOrder h samples);
+  difference-restore = λ h values. fills-or-keeps vaultNumbers (differenceRestore h values) (vault-within octaveRestored h values);
   decode-body = λ byte channels frames body. fills-or-keeps bodyNumbers (decodedBody byte channels frames body) (body-within byte channels frames body);
   fibonacci-decode-channel = λ body. fills-or-keeps channelNumbers (fibChannel body) (channel-within channelNumbers (one-of channelNumbers channelShort tt) body);
   fibonacci-encode-channel = λ samples. fills-or-keeps [] (gives (fibBytes samples)) tt;

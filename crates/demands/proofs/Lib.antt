@@ -15,5 +15,6 @@ pub mod Demand1
 pub mod Demand2
 pub mod Demand3
 pub mod ReadWave
+pub mod ReadVault
 pub mod Ensemble
 pub mod TableP

@@ -58,6 +58,7 @@ use Rattle.voice_read.specs.Parsed.{Lent, neededBy, afterReading}
 use Rattle.voice_read.specs.declared.chunks.Parsed.the-variants as Parsed
 use Rattle.voice_write.specs.WriteVoice.{writeSheet}
 use Rattle.wave.specs.Wave.{octaveWaveOf}
+use Rattle.vault.specs.DifferenceOrder.{differenceOrder, differenceRestore}
 use Rattle.ensemble_score.specs.declared.Entry.{Entry}
 use Rattle.ensemble.specs.Mix.{afterMix}
 use Rattle.ensemble.specs.declared.Mixed.the-variants as Mixed
@@ -110,6 +111,10 @@ mixNumbers =
     compression ∷ octaveTotal ∷ recordCut ∷ recordWrong ∷ textIllFormed ∷ sampleLengths
     ∷ segment ∷ sequenceOneShot ∷ fadeSegment ∷ sequenceLength ∷ oddPlaces ∷ noOctave ∷ step ∷ rate ∷ velocity ∷ startOrder ∷ entryCount ∷ earlyKeyUp ∷ []
 
+-- a channel in difference order, or back: 13, 18
+abbrev pub vaultNumbers : List ℕ
+vaultNumbers = octaveTotal ∷ sampleLengths ∷ []
+
 -- one record of a sheet: 15, 16
 abbrev pub recordNumbers : List ℕ
 recordNumbers = recordCut ∷ recordWrong ∷ []
@@ -139,6 +144,10 @@ pub record Demand1 : Type 0 where
   pub octave-wave-length : (sheet : List ℕ) (sides : Sides) (k n : ℕ) → lengthOf (octaveWaveOf sheet sides k) ≡ Output.Refused n → Among n waveNumbers
   -- octave_wave is refused by these or 20, and then the file's buffer is as it was
   pub octave-wave : (sheet : List ℕ) (sides : Sides) (k : ℕ) → FillsOrKeeps waveNumbers (octaveWaveOf sheet sides k)
+  -- difference_order is refused by 13, 18 or 20, and then its buffer is as it was
+  pub difference-order : (h : VoiceHeader) (samples : List ℤ) → FillsOrKeeps vaultNumbers (differenceOrder h samples)
+  -- difference_restore too
+  pub difference-restore : (h : VoiceHeader) (values : List ℤ) → FillsOrKeeps vaultNumbers (differenceRestore h values)
   -- decode_body is refused by 10, 11, 12 or 20, and then its buffer is as it was
   pub decode-body : (byte channels frames : ℕ) (body : List ℕ) → FillsOrKeeps bodyNumbers (decodedBody byte channels frames body)
   -- fibonacci_decode_channel is refused by 12 or 20, and then its buffer is as it was

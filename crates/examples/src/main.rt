@@ -2,6 +2,7 @@
 mod codec;
 mod crossings;
 mod headers;
+mod orders;
 mod sheets;
 mod texts;
 mod waves;
@@ -13,4 +14,5 @@ fn main() {
     texts::run();
     waves::run();
     crossings::run();
+    orders::run();
 }

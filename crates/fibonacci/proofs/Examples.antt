@@ -6,7 +6,8 @@ use lib.IntN.{pos, negsuc}
 use lib.ListN.{take}
 use Rattle.refusal.specs.Outcome.{refuses}
 use Rattle.field.specs.Signed.{twosComplement, twosComplementBits}
-use Rattle.fibonacci.specs.Step.{deltas, residue, toSample, fibStep}
+use Rattle.field.specs.Wrap.{residue, toSample}
+use Rattle.fibonacci.specs.Step.{deltas, fibStep}
 use Rattle.fibonacci.specs.Decode.{nibbles, running, fibSamples, fibChannel}
 use Rattle.fibonacci.specs.Pick.{less, argmin, deltaSize, nearest, distance, fibPick}
 use Rattle.fibonacci.specs.Encode.{picks, packed, fibBytes}

@@ -1,5 +1,4 @@
 -- Laws that this crate's proofs and those above cite.
-pub mod WrapLaws
 pub mod StepLaws
 pub mod Least
 pub mod NearestLaws

@@ -15,7 +15,8 @@ use mir.Syntax.{w8}
 use mir.Val.{SFits}
 use Rattle.laws.proofs.Signed.{zarith, known, diff, abs-parts}
 use Rattle.laws.proofs.Table.{allBelow, below}
-use Rattle.fibonacci.specs.Step.{deltas, toSample}
+use Rattle.field.specs.Wrap.{toSample}
+use Rattle.fibonacci.specs.Step.{deltas}
 use Rattle.fibonacci.specs.Pick.{deltaSize, distance, fibPick}
 use Rattle.fibonacci.specs.Helpers.{bySize, keyAt, leastOf}
 use Rattle.fibonacci.proofs.StepLaws.{step-fits, step-sum}

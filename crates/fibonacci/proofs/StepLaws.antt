@@ -12,9 +12,10 @@ use mir.Syntax.{w8}
 use mir.Val.{SFits}
 use Rattle.laws.proofs.Signed.{up, dn, zarith, apart, known, sum, abs-parts}
 use Rattle.laws.proofs.Table.{allBelow, below}
-use Rattle.fibonacci.specs.Step.{deltas, toSample, fibStep}
+use Rattle.field.specs.Wrap.{toSample}
+use Rattle.fibonacci.specs.Step.{deltas, fibStep}
 use Rattle.fibonacci.specs.Pick.{deltaSize}
-use Rattle.fibonacci.proofs.WrapLaws.{sample-fits, sample-kept, sample-below, sample-above, sample-apart}
+use Rattle.field.proofs.WrapLaws.{sample-fits, sample-kept, sample-below, sample-above, sample-apart}
 
 -- ---- the deltas
 

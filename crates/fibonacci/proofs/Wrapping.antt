@@ -4,9 +4,9 @@ use mathlib.Core.Path.{_≡_}
 use lib.IntN.{ℤ, pos, negsuc}
 use lib.Signed.{_≤ℤ_}
 use Rattle.laws.proofs.Signed.{zarith, apart}
-use Rattle.fibonacci.specs.Step.{toSample}
+use Rattle.field.specs.Wrap.{toSample}
 use Rattle.fibonacci.specs.Wrapping.{Wrapping}
-use Rattle.fibonacci.proofs.WrapLaws.{sample-kept, sample-turn}
+use Rattle.field.proofs.WrapLaws.{sample-kept, sample-turn}
 use Rattle.fibonacci.proofs.PickLaws.{pick-back}
 use Rattle.fibonacci.proofs.Survive.{stream-back}
 use Rattle.fibonacci.proofs.Examples.{up-past-the-end, down-past-the-end}

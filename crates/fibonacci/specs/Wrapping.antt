@@ -6,7 +6,8 @@ use lib.IntN.{ℤ, pos, negsuc, _+ℤ_}
 use lib.ListN.{length, drop}
 use lib.Signed.{_≤ℤ_}
 use Rattle.field.specs.BigEndian.{Bytes}
-use Rattle.fibonacci.specs.Step.{toSample, fibStep}
+use Rattle.field.specs.Wrap.{toSample}
+use Rattle.fibonacci.specs.Step.{fibStep}
 use Rattle.fibonacci.specs.Decode.{fibSamples}
 use Rattle.fibonacci.specs.Pick.{fibPick}
 use Rattle.fibonacci.specs.Encode.{fibBytes}

@@ -2,7 +2,7 @@
 use crate::search::nearest_of_all;
 use crate::step::difference;
 use crate::step::fib_step;
-use crate::step::sample_sum;
+use field::sample_sum;
 ghost use mathlib.Core.Path.{_≡_};
 ghost use Rattle.fibonacci.specs.Helpers.{nearestStep, NearestTable, picked};
 

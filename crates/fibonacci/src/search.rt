@@ -1,11 +1,11 @@
 // The nearest of all sixteen nibbles. Each has a key, and the least key alone tells which it is: a minimum without a branch, for which a
 // processor can look at many keys at once.
 use crate::step::difference;
-use crate::step::sample_sum;
+use field::sample_sum;
 ghost use mathlib.Core.Path.{_≡_};
 ghost use Prim.Native.Nat.{_+_, _*_, _<_, min};
 ghost use lib.IntN.{natAbs, _+ℤ_, _-ℤ_};
-ghost use Rattle.fibonacci.specs.Step.{toSample};
+ghost use Rattle.field.specs.Wrap.{toSample};
 ghost use Rattle.fibonacci.specs.Pick.{fibPick};
 ghost use Rattle.fibonacci.specs.Helpers.{bySize, DeltasBySize, keyAt, leastOf};
 

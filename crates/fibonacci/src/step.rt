@@ -1,9 +1,10 @@
 // One step of the code.
+use field::sample_sum;
 ghost use mathlib.Core.Path.{_≡_};
 ghost use Prim.Native.Nat.{_<_};
-ghost use lib.IntN.{pos, _+ℤ_, _-ℤ_};
+ghost use lib.IntN.{pos, _-ℤ_};
 ghost use lib.ListN.{getD};
-ghost use Rattle.fibonacci.specs.Step.{deltas, toSample, fibStep};
+ghost use Rattle.fibonacci.specs.Step.{deltas, fibStep};
 
 const DELTAS: [i8; 16] = [-34, -21, -13, -8, -5, -3, -2, -1, 0, 1, 2, 3, 5, 8, 13, 21];
 
@@ -14,15 +15,6 @@ fn delta(nibble: u8) -> i8
 {
     let i = nibble as usize;
     DELTAS[i]
-}
-
-// The sum of two samples in a signed byte, which wraps: 127 and 1 make -128.
-pub(crate) fn sample_sum(a: i8, b: i8) -> i8
-    ensures { λ r. ⌜ r ≡ toSample (a +ℤ b) ⌝ }
-{
-    let x = field::byte_of_sample(a);
-    let y = field::byte_of_sample(b);
-    field::sample_of_byte(std::num::wrapping_add_u8(x, y))
 }
 
 // By how much a is above b.

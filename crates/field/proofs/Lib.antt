@@ -2,4 +2,5 @@
 pub mod BigEndianLaws
 pub mod LittleEndianLaws
 pub mod SignedLaws
+pub mod WrapLaws
 pub mod TaggedLaws

@@ -1,5 +1,5 @@
-// Fields of files: big-endian numbers as FORM has them and little-endian ones as RIFF has them, signed samples, and stores at a place of
-// a lent buffer.
+// Fields of files: big-endian numbers as FORM has them and little-endian ones as RIFF has them, signed samples with their sums and
+// differences, and stores at a place of a lent buffer.
 //
 // The functions that read at a place ask that the field lies within the slice: the crates above have judged lengths by
 // then. Those that store pass over what does not fit, so a writer that is run over an empty slice measures.
@@ -7,6 +7,7 @@ mod little;
 mod number;
 mod signed;
 mod store;
+mod wrap;
 
 pub use little::put16_le;
 pub use little::put32_le;
@@ -24,3 +25,5 @@ pub use store::put_all;
 pub use store::put_byte;
 pub use store::put_record;
 pub use store::put_tagged;
+pub use wrap::sample_difference;
+pub use wrap::sample_sum;

@@ -27,7 +27,7 @@ module _ (h : VoiceHeader) (n k : ℕ) where
   octave-absent l = rw (le-ltb k (min 64 (octaves h)) l)
 
 -- octave k starts where the ones before it end: the lengths of the first k, and octave k's, are those of the first k + 1
-octave-next : (h : VoiceHeader) (k : ℕ) → hi h * (2 ^ k - 1) + hi h * 2 ^ k ≡ hi h * (2 ^ (k + 1) - 1)
+pub octave-next : (h : VoiceHeader) (k : ℕ) → hi h * (2 ^ k - 1) + hi h * 2 ^ k ≡ hi h * (2 ^ (k + 1) - 1)
 octave-next h k =
     let e : 2 ^ k - 1 + 2 ^ k ≡ 2 ^ (k + 1) - 1 = rw (add-one k, pow-suc 2 k) (omega (arith, pow-pos k)) in
     sym (mul-add (hi h) (2 ^ k - 1) (2 ^ k)) ∙ ap (λ (x : ℕ). hi h * x) e

@@ -17,6 +17,10 @@ hi h = h .«one_shot_hi_samples» + h .«repeat_hi_samples»
 abbrev pub octaves : VoiceHeader → ℕ
 octaves h = max (h .«ct_octave») 1
 
+-- how many octaves are there: if hi = 0, only one
+abbrev pub octavesThere : VoiceHeader → ℕ
+octavesThere h = cond (eqb (hi h) 0) 1 (octaves h)
+
 -- octave k is there: below the number of octaves; if hi = 0, only octave 0
 abbrev pub octaveThere : VoiceHeader → ℕ → Bool
 octaveThere h k = cond (eqb (hi h) 0) (eqb k 0) (ltb k (octaves h))

@@ -1,10 +1,10 @@
 -- Two lists as one, by turns, and the two taken out of it again.
 use mathlib.Core.List.{List, [], _∷_}
 
--- a left and a right element by turns, as long as there are both
+-- a left and a right element by turns, and then what is left of the longer list
 unfoldable pub byTurns : {A : Type 0} → List A → List A → List A
-byTurns [] rs = []
-byTurns (l ∷ ls) [] = []
+byTurns [] rs = rs
+byTurns (l ∷ ls) [] = l ∷ ls
 byTurns (l ∷ ls) (r ∷ rs) = l ∷ r ∷ byTurns ls rs
 
 -- the elements at even places, counted from 0

@@ -1,11 +1,15 @@
 -- Where an octave lies in a side, and its one-shot and repeat part in the octave.
 use Prim.Native.Nat.{ℕ, _+_, _-_, _*_, _^_}
 use mathlib.Core.Bool.{cond}
+use mathlib.Core.List.{List}
 use lib.Dec.{eqb, ltb, leb}
+use lib.IntN.{ℤ}
+use lib.ListN.{length}
 use Rattle.header.specs.Octaves.{hi, octaves, inOctave}
 use Rattle.header.specs.declared.«voice_header».VoiceHeader.{VoiceHeader}
 use Rattle.header.specs.declared.«voice_header».SampleCount.{SampleCount}
 use Rattle.header.specs.declared.«voice_header».SampleCount.the-variants as count
+use Rattle.octaves.specs.Part.{partOf}
 use Rattle.octaves.specs.declared.part.Part.{Part}
 use Rattle.octaves.specs.declared.part.Part.the-variants.{At, Absent}
 
@@ -14,6 +18,10 @@ unfoldable pub octavePart : VoiceHeader → ℕ → ℕ → Part
 octavePart h n k =
     cond (eqb (hi h) 0) (cond (eqb k 0) (At 0 n) Absent)
     (cond (ltb k (octaves h)) (cond (leb (hi h * (2 ^ k - 1) + hi h * 2 ^ k) n) (At (hi h * (2 ^ k - 1)) (hi h * 2 ^ k)) Absent) Absent)
+
+-- its samples
+abbrev pub octaveOf : VoiceHeader → ℕ → List ℤ → List ℤ
+octaveOf h k side = partOf (octavePart h (length side) k) side
 
 -- where the repeat part begins in an octave of n samples whose one-shot part is this long: there, where both parts make up the octave
 abbrev pub repeatAfter : SampleCount → ℕ → ℕ → SampleCount

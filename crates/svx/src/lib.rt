@@ -1,6 +1,7 @@
 // The C interface. Each function hands its arguments to one entry of the library and its answer back: 0, or the refusal's number,
 // with lengths written where the call was accepted and left alone where it was refused.
 mod codec;
+mod differences;
 mod files;
 mod hand;
 mod leaves;
@@ -12,6 +13,8 @@ mod sheet_walk;
 pub use codec::svx_decode_body;
 pub use codec::svx_fibonacci_decode_channel;
 pub use codec::svx_fibonacci_encode_channel;
+pub use differences::svx_difference_order;
+pub use differences::svx_difference_restore;
 pub use files::svx_encode_voice;
 pub use files::svx_file_length;
 pub use files::svx_octave_wave;

@@ -39,7 +39,7 @@ fn hand_part(part: Part) -> SvxPart
 }
 
 // A header of which the octaves' lengths alone matter.
-fn octave_header(one_shot: u32, repeat: u32, octaves: u8) -> VoiceHeader
+pub(crate) fn octave_header(one_shot: u32, repeat: u32, octaves: u8) -> VoiceHeader
     ensures { λ r. ⌜ r ≡ octaveHeader «one_shot» repeat octaves ⌝ }
 {
     VoiceHeader {

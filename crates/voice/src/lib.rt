@@ -42,6 +42,10 @@ pub use samples::peak;
 pub use wave::octave_wave;
 pub use wave::octave_wave_length;
 
+// A channel in difference order, as a vault stores it, and back.
+pub use vault::difference_order;
+pub use vault::difference_restore;
+
 // Codecs: channels, and a whole BODY.
 pub use body_decode::decode_body;
 pub use body_read::SideLengths;

@@ -23,7 +23,7 @@ use Rattle.body_read.proofs.SideLaws.{suit-parts}
 use Rattle.body_read.specs.Sides.{Sides, lengthsSuit}
 use Rattle.sheet.specs.Voice.{Voice, isStereo}
 use Rattle.octaves.proofs.PartLaws.{part-none, part-samples}
-use Rattle.octaves.specs.Octave.{octavePart}
+use Rattle.octaves.specs.Octave.{octavePart, octaveOf}
 use Rattle.octaves.specs.Side.{ofSide}
 use Rattle.octaves.specs.declared.side.Side.{Side}
 use Rattle.octaves.specs.declared.side.Side.the-variants.{Left, Right}
@@ -33,7 +33,7 @@ use Rattle.wave.proofs.WaveLaws.{stereo, lefts, rights, octaves-same, c
 use Rattle.wave.specs.Helpers.{heldFor}
 use Rattle.wave.specs.ReadBack.{riffLength, channelsIn, rateIn, afterFormat, payloadOf, sideValues, sampleFrom, ReadBack}
 use Rattle.wave.specs.Riff.{riff, waveType, fmt, dataName, riffHead, riffChunk, formatBytes, waveContents}
-use Rattle.wave.specs.Wave.{octaveOf, valueOf, valuesOf, channelsOf, octaveWave}
+use Rattle.wave.specs.Wave.{valueOf, valuesOf, channelsOf, octaveWave}
 
 -- ---- a file by its parts
 
@@ -100,8 +100,8 @@ module _ (left right : List ℤ) (ls : Samples left) (rs : Samples right) where
       long = length-map left valueOf ∙ same ∙ sym (length-map right valueOf)
 
       both : (side : Side) → map sampleFrom (sideValues 2 side (byTurns (map valueOf left) (map valueOf right))) ≡ ofSide side left right
-      both Left = ap (map sampleFrom) (evens-back (map valueOf left) (map valueOf right) long) ∙ samples-back left ls
-      both Right = ap (map sampleFrom) (odds-back (map valueOf left) (map valueOf right) long) ∙ samples-back right rs
+      both Left = ap (map sampleFrom) (evens-back (map valueOf left) (map valueOf right) (omega (arith, long)) (omega (arith, long))) ∙ samples-back left ls
+      both Right = ap (map sampleFrom) (odds-back (map valueOf left) (map valueOf right) (omega (arith, long)) (omega (arith, long))) ∙ samples-back right rs
 
   one-back : right ≡ [] → (side : Side) → map sampleFrom (sideValues 1 side (map valueOf left)) ≡ ofSide side left right
   one-back none Left = samples-back left ls

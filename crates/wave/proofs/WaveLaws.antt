@@ -25,13 +25,13 @@ use Rattle.body_read.proofs.SideLaws.{suit-parts}
 use Rattle.body_read.specs.Sides.{Sides, lengthsSuit}
 use Rattle.sheet.specs.Voice.{Voice, isStereo}
 use Rattle.octaves.proofs.PartLaws.{part-same}
-use Rattle.octaves.specs.Octave.{octavePart}
+use Rattle.octaves.specs.Octave.{octavePart, octaveOf}
 use Rattle.voice_rules.specs.Rules.{voiceRules}
 use Rattle.wave.proofs.RiffLaws.{contents-length, held-chunk}
 use Rattle.wave.proofs.ValueLaws.{values-length}
 use Rattle.wave.specs.Helpers.{heldFor, lengthFor}
 use Rattle.wave.specs.Riff.{riff, waveContents}
-use Rattle.wave.specs.Wave.{octaveOf, valuesOf, channelsOf, octaveContents, octaveFile, sourceRules, lengthRules, waveRules, octaveWave}
+use Rattle.wave.specs.Wave.{valuesOf, channelsOf, octaveContents, octaveFile, sourceRules, lengthRules, waveRules, octaveWave}
 
 module _ (v : Voice) (s : Sides) (k : ℕ) where
   abbrev h : VoiceHeader

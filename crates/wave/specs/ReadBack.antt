@@ -10,10 +10,11 @@ use Rattle.laws.specs.Turns.{evens, odds}
 use Rattle.field.specs.LittleEndian.{littleEndian}
 use Rattle.body_read.specs.Sides.{Sides}
 use Rattle.sheet.specs.Voice.{Voice, isStereo}
+use Rattle.octaves.specs.Octave.{octaveOf}
 use Rattle.octaves.specs.Side.{ofSide}
 use Rattle.octaves.specs.declared.side.Side.{Side}
 use Rattle.octaves.specs.declared.side.Side.the-variants.{Left, Right}
-use Rattle.wave.specs.Wave.{channelsOf, octaveOf}
+use Rattle.wave.specs.Wave.{channelsOf}
 
 -- ---- a file taken apart
 

@@ -15,16 +15,11 @@ use Rattle.body_read.specs.Sides.{Sides}
 use Rattle.sheet.specs.Judge.{judged, ifSound}
 use Rattle.sheet.specs.Read.{readSheet}
 use Rattle.sheet.specs.Voice.{Voice, isStereo}
-use Rattle.octaves.specs.Octave.{octavePart}
-use Rattle.octaves.specs.Part.{partOf}
+use Rattle.octaves.specs.Octave.{octaveOf}
 use Rattle.voice_rules.specs.Rules.{voiceRules}
 use Rattle.wave.specs.Riff.{riff, riffChunk, waveContents}
 
 -- ---- the values
-
--- the samples of octave k of a side
-abbrev pub octaveOf : VoiceHeader → ℕ → List ℤ → List ℤ
-octaveOf h k side = partOf (octavePart h (length side) k) side
 
 -- a sample as a value: WAVE's 8 bits are unsigned, so it is the sample plus 128
 unfoldable pub valueOf : ℤ → ℕ

@@ -185,6 +185,26 @@ extern "C" {
         out_len: usize,
         length: *mut u64,
     ) -> u32;
+    pub fn svx_difference_order(
+        one_shot: u32,
+        repeat: u32,
+        octaves: u8,
+        samples: *const i8,
+        samples_len: usize,
+        out: *mut i8,
+        out_len: usize,
+        length: *mut u64,
+    ) -> u32;
+    pub fn svx_difference_restore(
+        one_shot: u32,
+        repeat: u32,
+        octaves: u8,
+        values: *const i8,
+        values_len: usize,
+        out: *mut i8,
+        out_len: usize,
+        length: *mut u64,
+    ) -> u32;
     pub fn svx_sheet_record(sheet: *const u8, sheet_len: usize, at: u64) -> Record;
     /// For the comparison alone: here, measuring the file that a sheet would make judges the sheet too.
     #[allow(dead_code)]

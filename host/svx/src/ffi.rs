@@ -233,6 +233,57 @@ pub fn fibonacci_encode_channel(samples: &[i8], out: &mut [u8]) -> Result<usize,
     answer(refusal, length)
 }
 
+/// A channel in difference order, octave by octave as the header's lengths and octave count say; how many values there
+/// are.
+pub fn difference_order(
+    one_shot: u32,
+    repeat: u32,
+    octaves: u8,
+    samples: &[i8],
+    out: &mut [i8],
+) -> Result<usize, Refusal> {
+    let mut length = 0;
+    // SAFETY: as the module says.
+    let refusal = unsafe {
+        svx_difference_order(
+            one_shot,
+            repeat,
+            octaves,
+            samples.as_ptr(),
+            samples.len(),
+            out.as_mut_ptr(),
+            out.len(),
+            &mut length,
+        )
+    };
+    answer(refusal, length)
+}
+
+/// The channel that these values are the difference order of; how many samples there are.
+pub fn difference_restore(
+    one_shot: u32,
+    repeat: u32,
+    octaves: u8,
+    values: &[i8],
+    out: &mut [i8],
+) -> Result<usize, Refusal> {
+    let mut length = 0;
+    // SAFETY: as the module says.
+    let refusal = unsafe {
+        svx_difference_restore(
+            one_shot,
+            repeat,
+            octaves,
+            values.as_ptr(),
+            values.len(),
+            out.as_mut_ptr(),
+            out.len(),
+            &mut length,
+        )
+    };
+    answer(refusal, length)
+}
+
 /// The record at a place of a sheet: its kind, the place of its body, and the place past it. None at the end, and where
 /// there is no whole record of a known kind.
 pub fn sheet_record(sheet: &[u8], at: usize) -> Option<(u8, usize, usize)> {

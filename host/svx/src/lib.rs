@@ -9,6 +9,8 @@
 //! - [`Sheet::octave_wave`] writes an octave of a voice as a RIFF WAVE file.
 //! - [`ChannelSamples::nearest_crossing`] finds the quiet spot beside the end of a loop.
 //! - [`peak`] finds the loudest sample, the first where several are as loud.
+//! - [`difference_order`] puts a channel into the order in which a vault stores it, and [`difference_restore`] gives it
+//!   back.
 //! - What can be turned back answers a [`Refusal`], which has a number and words. Nothing here panics, whatever the
 //!   input.
 //!
@@ -81,6 +83,7 @@ mod note;
 mod refusal;
 mod sheet;
 mod small_chunks;
+mod vault;
 mod voice;
 
 pub use c::Entry;
@@ -91,6 +94,7 @@ pub use note::Note;
 pub use refusal::Refusal;
 pub use sheet::{Records, Sheet};
 pub use small_chunks::{ChannelAssignment, EgPoint, Envelope, Fade, Pan, Seqn, SeqnSegment};
+pub use vault::{difference_order, difference_restore};
 pub use voice::{ChannelSamples, Voice};
 
 /// Reads a file to a voice. Refused by 1 to 14.

@@ -87,6 +87,18 @@ impl Sheet {
         &self.right
     }
 
+    /// The three parts themselves, which [`from_parts`](Self::from_parts) takes again.
+    pub fn into_parts(self) -> (Vec<u8>, Vec<i8>, Vec<i8>) {
+        (self.bytes, self.left, self.right)
+    }
+
+    /// The header alone.
+    pub fn header(&self) -> VoiceHeader {
+        // A sheet has one, as it was judged.
+        let header = self.records().find(|(kind, _)| *kind == HEADER);
+        header.map_or_else(VoiceHeader::default, |(_, body)| VoiceHeader::from_bytes(body))
+    }
+
     /// The records one at a time, each as its kind and its body.
     pub fn records(&self) -> Records<'_> {
         Records {

@@ -114,6 +114,15 @@ fn use_score(r: &mut Xorshift, sheet: &Sheet) {
     }
 }
 
+/// A side of a sheet always has a difference order, as any values of its length are one.
+fn use_order(r: &mut Xorshift, header: &VoiceHeader, side: &[i8]) {
+    let values = svx::difference_order(header, side).unwrap();
+    assert_eq!(svx::difference_restore(header, &values).unwrap(), side);
+    let values = r.samples(side.len());
+    let samples = svx::difference_restore(header, &values).unwrap();
+    assert_eq!(svx::difference_order(header, &samples).unwrap(), values);
+}
+
 /// Asks a sheet everything there is to ask.
 fn use_sheet(r: &mut Xorshift, sheet: &Sheet) {
     let voice = sheet.voice();
@@ -122,10 +131,12 @@ fn use_sheet(r: &mut Xorshift, sheet: &Sheet) {
     assert!(svx::parse_voice(&file).is_ok());
     let lengths: usize = sheet.records().map(|(_, body)| 1 + body.len()).sum();
     assert_eq!(lengths, sheet.bytes().len());
+    assert_eq!(sheet.header(), voice.header);
     let k = r.byte() % 4;
     for channel in &voice.channels {
         channel.loop_split(&voice.header, k);
         svx::peak(&channel.flattened());
+        use_order(r, &voice.header, &channel.flattened());
         judge(
             channel.nearest_crossing(k, r.next() as usize, r.next() as usize),
             &[31, 43],
@@ -276,4 +287,30 @@ fn bodies() {
         let count = r.below(40);
         svx::fibonacci_encode_channel(&r.samples(count));
     }
+}
+
+/// Channels that may suit a header: ordering and restoring are turned back alike.
+#[test]
+fn channels() {
+    let mut r = Xorshift::new(5);
+    let mut accepted = 0;
+    for _ in 0..INPUTS {
+        let voice = any_voice(&mut r);
+        let samples = voice
+            .channels
+            .first()
+            .map(ChannelSamples::flattened)
+            .unwrap_or_default();
+        let values = judge(svx::difference_order(&voice.header, &samples), &[13, 18]);
+        let restored = judge(svx::difference_restore(&voice.header, &samples), &[13, 18]);
+        assert_eq!(values.is_some(), restored.is_some());
+        if values.is_some() {
+            use_order(&mut r, &voice.header, &samples);
+            accepted += 1;
+        }
+    }
+    assert!(
+        (INPUTS / 10..INPUTS).contains(&accepted),
+        "{accepted} of {INPUTS} were ordered"
+    );
 }

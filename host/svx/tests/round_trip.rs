@@ -11,7 +11,9 @@ fn survives(voice: &Voice) {
     assert_eq!(Sheet::read(&file).unwrap(), sheet);
     assert_eq!(sheet.write().unwrap(), file);
     assert_eq!(&sheet.voice(), voice);
+    assert_eq!(sheet.header(), voice.header);
     let parts = (sheet.bytes().to_vec(), sheet.left().to_vec(), sheet.right().to_vec());
+    assert_eq!(sheet.clone().into_parts(), parts);
     assert_eq!(Sheet::from_parts(parts.0, parts.1, parts.2).unwrap(), sheet);
 }
 

@@ -3,7 +3,7 @@ use std::io;
 
 /// What ends a command early. The words are one line, without the tool's name.
 pub enum Failure {
-    /// Wrong usage, or a file that can't be read or written.
+    /// Wrong usage, or a file that can't be read, stored or written.
     Wrong(String),
     /// A file or a fill that the library refuses.
     Refused(String),

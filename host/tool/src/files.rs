@@ -14,6 +14,13 @@ const LARGEST: u64 = 1 << 32;
 /// The largest text that is read, 1 MiB: one that was written by hand is smaller.
 const LARGEST_TEXT: u64 = 1 << 20;
 
+/// The largest stored voice that is read or written, 8 GiB: a byte of a file becomes at most two, and only what reading
+/// mends may grow more, where a voice is stored anew.
+pub const LARGEST_STORED: u64 = 2 * LARGEST;
+
+/// What a stored voice begins with.
+pub const STORED: &[u8; 8] = b"8SVXDIFF";
+
 /// A file that was read: its name for messages, and its bytes.
 pub struct Input {
     pub name: String,
@@ -26,6 +33,11 @@ impl Input {
     /// Reads a whole file. Of one that isn't a FORM 8SVX only the beginning, which is what the library refuses.
     pub fn read(path: &OsStr) -> Result<Input, Failure> {
         Input::read_within(path, (LARGEST, "4 GiB"), foreign)
+    }
+
+    /// Reads a whole stored voice. Of a file that doesn't begin as one only the beginning.
+    pub fn read_stored(path: &OsStr) -> Result<Input, Failure> {
+        Input::read_within(path, (LARGEST_STORED, "8 GiB"), |start| !start.starts_with(STORED))
     }
 
     /// Reads a whole text.

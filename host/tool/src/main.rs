@@ -1,5 +1,5 @@
 //! A tool for Amiga voices (FORM 8SVX): what is in them, their notes and octaves as sound files, their waveforms as
-//! pictures.
+//! pictures, and voices stored for a vault and given back.
 mod args;
 mod check;
 mod convert;
@@ -19,6 +19,7 @@ mod score;
 mod stem;
 mod stereo;
 mod svg;
+mod vault;
 mod wave;
 mod words;
 
@@ -28,7 +29,7 @@ use std::ffi::OsString;
 use std::io::Write;
 use std::process::ExitCode;
 
-const COMMANDS: [&Command; 10] = [
+const COMMANDS: [&Command; 11] = [
     &info::INFO,
     &check::CHECK,
     &stem::STEM,
@@ -37,6 +38,7 @@ const COMMANDS: [&Command; 10] = [
     &wave::WAVE,
     &convert::RAW,
     &convert::REWRITE,
+    &vault::VAULT,
     &crossing::CROSSING,
     &draw::DRAW,
 ];
@@ -97,7 +99,7 @@ fn overview() -> String {
     }
     words += "\nsvx COMMAND --help tells more of a command. The status is 0; 1 where a file, a\n";
     words += "note, a score, an octave or a search is refused; 2 for wrong usage or a file that\n";
-    words + "can't be read or written.\n"
+    words + "can't be read, stored or written.\n"
 }
 
 /// The help of a command.

@@ -18,8 +18,8 @@ const EXAMPLE: [u8; 50] = [
     0, 0, 0, 0, 0, 0, 0, 0, 0x1F, 0x40, 1, 0, 0, 1, 0, 0, 0x42, 0x4F, 0x44, 0x59, 0, 0, 0, 1, 0xFE, 0,
 ];
 
-const COMMANDS: [&str; 10] = [
-    "info", "check", "stem", "mix", "null", "wave", "raw", "rewrite", "crossing", "draw",
+const COMMANDS: [&str; 11] = [
+    "info", "check", "stem", "mix", "null", "wave", "raw", "rewrite", "vault", "crossing", "draw",
 ];
 
 /// What a run of the tool gave.
@@ -297,6 +297,10 @@ fn wrong_usage_is_2() {
     run(&[&"wave", &file, &out, &"--octave=256"]).fails(2, "from 0 to 255");
     run(&[&"wave", &file, &out, &"--force=1"]).fails(2, "takes no value");
     run(&[&"wave", &file, &"-", &"--all"]).fails(2, "--all writes several files");
+    run(&[&"vault", &file]).fails(2, "usage: svx vault FILE OUT [--restore | --anew] [--force]");
+    run(&[&"vault", &file, &out, &out]).fails(2, "usage: svx vault FILE OUT");
+    run(&[&"vault", &file, &out, &"--restore", &"--anew"]).fails(2, "exclude each other");
+    run(&[&"vault", &file, &out, &"--force=1"]).fails(2, "takes no value");
     run(&[&"crossing", &file, &"--place=0"]).fails(2, "--octave is missing (svx crossing --help tells more)");
     run(&[&"crossing", &file, &"--octave=0"]).fails(2, "--place is missing");
     run(&[&"crossing", &file, &"--octave=256", &"--place=0"]).fails(2, "from 0 to 255");
@@ -325,26 +329,38 @@ fn bad_input_is_told_in_one_line() {
         run(&[&"crossing", &path, &"--octave=0", &"--place=0"]).fails(status, words);
         run(&[&"wave", &path, &out, &"--all"]).fails(status, words);
         run(&[&"mix", &path, &path, &out]).fails(status, words);
-        for command in ["stem", "wave", "raw", "rewrite", "draw"] {
+        run(&[&"vault", &path, &out, &"--anew"]).fails(status, words);
+        let unlike = if status == 1 { "isn't a stored voice" } else { words };
+        run(&[&"vault", &"--restore", &path, &out]).fails(2, unlike);
+        for command in ["stem", "wave", "raw", "rewrite", "vault", "draw"] {
             run(&[&command, &path, &out]).fails(status, words);
             assert!(!out.exists(), "{command} left a file behind");
         }
     }
 }
 
+/// Makes a file longer by a hole; where holes can't be made it stays as it is.
+fn stretched(path: &Path, length: u64) -> bool {
+    let file = File::options().write(true).open(path);
+    file.and_then(|file| file.set_len(length)).is_ok()
+}
+
 #[test]
 fn a_file_over_4_gib_is_not_read() {
     let folder = Folder::new("large");
     let path = folder.file("large", b"FORM\0\0\0\x048SVX");
-    // The file has a hole; where holes can't be made there is nothing to try.
-    let made = File::options()
-        .write(true)
-        .open(&path)
-        .and_then(|file| file.set_len((1 << 32) + 1));
-    if made.is_ok() {
+    if stretched(&path, (1 << 32) + 1) {
         run(&[&"check", &path]).fails(2, "is larger than 4 GiB");
         run(&[&"info", &path]).fails(2, "is larger than 4 GiB");
+        run(&[&"vault", &path, &folder.path("out")]).fails(2, "is larger than 4 GiB");
+        // Of one that isn't a stored voice only the beginning is read.
+        run(&[&"vault", &"--restore", &path, &folder.path("out")]).fails(2, "isn't a stored voice");
     }
+    let path = folder.file("stored", b"8SVXDIFF");
+    if stretched(&path, (1 << 33) + 1) {
+        run(&[&"vault", &"--restore", &path, &folder.path("out")]).fails(2, "is larger than 8 GiB");
+    }
+    assert_eq!(folder.names(), "large stored");
 }
 
 #[test]
@@ -1328,6 +1344,437 @@ fn crossing_looks_at_one_side() {
     assert_eq!((last(&[]).as_str(), last(&["--right"]).as_str()), ("2\n", "1\n"));
 }
 
+/// A stored voice, put together here.
+fn stored(sheet: &[u8], left: &[i8], right: &[i8]) -> Vec<u8> {
+    let lengths = [sheet.len(), left.len(), right.len()].map(|length| length as u64);
+    let sides = left.iter().chain(right).map(|value| *value as u8);
+    [&with_lengths(lengths)[..], sheet, &sides.collect::<Vec<u8>>()].concat()
+}
+
+/// What a stored voice has before its sheet.
+fn with_lengths(lengths: [u64; 3]) -> Vec<u8> {
+    [&b"8SVXDIFF"[..], &lengths.map(u64::to_be_bytes).concat()].concat()
+}
+
+#[test]
+fn vault_stores_sheet_and_values() {
+    let folder = Folder::new("vault");
+    let (path, out) = (folder.file("example.8svx", &EXAMPLE), folder.path("out"));
+    let ran = run(&[&"vault", &path, &out]).well();
+    assert_eq!(ran.out, format!("{}: 54 bytes, 1 channel of 1 sample\n", out.display()));
+    let mut expected = b"8SVXDIFF".to_vec();
+    expected.extend([0, 0, 0, 0, 0, 0, 0, 21, 0, 0, 0, 0, 0, 0, 0, 1, 0, 0, 0, 0, 0, 0, 0, 0]);
+    // VHDR is record 1. The only sample is -2.
+    expected.push(1);
+    expected.extend(&EXAMPLE[20..40]);
+    expected.push(0xFE);
+    assert_eq!(folder.read("out"), expected);
+    // 1, -3, 5 and -128, -1, -127: the second value of three comes last.
+    let sheet = Sheet::of(&stereo()).expect("a sheet");
+    let expected = stored(sheet.bytes(), &[1, 5, -3], &[-128, -127, -1]);
+    let path = folder.voice("stereo.8svx", &stereo());
+    let ran = run(&[&"vault", &path, &out, &"--force"]).well();
+    let words = format!(": {} bytes, 2 channels of 3 samples\n", expected.len());
+    assert!(ran.out.ends_with(&words), "{}", ran.out);
+    assert_eq!(folder.read("out"), expected);
+    // Two octaves, each for itself.
+    let sheet = Sheet::of(&looped()).expect("a sheet");
+    let values = svx::difference_order(&looped().header, sheet.left()).expect("an order");
+    assert_eq!((values[0], values[12]), (sheet.left()[0], sheet.left()[12]));
+    let path = folder.voice("looped.8svx", &looped());
+    assert_eq!(
+        run(&[&"vault", &path, &"-"]).well().bytes,
+        stored(sheet.bytes(), &values, &[])
+    );
+    assert_eq!(folder.names(), "example.8svx looped.8svx out stereo.8svx");
+}
+
+#[test]
+fn vault_tells_its_form() {
+    let out = run(&[&"vault", &"--help"]).well().out;
+    for words in [
+        "8SVXDIFF",
+        "big-endian",
+        "even places",
+        "--restore",
+        "--anew",
+        "--force",
+    ] {
+        assert!(out.contains(words), "{words}");
+    }
+    assert!(out.lines().all(|line| line.len() < 80), "{out}");
+}
+
+/// Stores a file and restores it: it comes back byte for byte, by standard output too.
+fn comes_back(folder: &Folder, file: &Path) {
+    let (store, back) = (folder.path("stored"), folder.path("back"));
+    let stored = run(&[&"vault", &file, &store, &"--force"]).well();
+    assert!(!stored.out.contains("written anew"), "{}", stored.out);
+    let restored = run(&[&"vault", &"--restore", &store, &back, &"--force"]).well();
+    let bytes = fs::read(file).expect("a file");
+    assert!(folder.read("back") == bytes, "{}", file.display());
+    assert!(run(&[&"vault", &file, &"-"]).well().bytes == folder.read("stored"));
+    assert!(run(&[&"vault", &"--restore", &store, &"-"]).well().bytes == bytes);
+    // Both lines tell of the same channels.
+    let channels = |line: &str| line.split_once(" bytes, ").map(|(_, words)| words.to_string());
+    assert!(channels(&stored.out).is_some());
+    assert_eq!(channels(&stored.out), channels(&restored.out));
+}
+
+#[test]
+fn vault_gives_the_same_file_back() {
+    let folder = Folder::new("vault-back");
+    let mut voices = vec![looped(), stereo(), unplayable()];
+    // With lengths of 0, any samples and none, of one channel and of two.
+    for samples in [vec![], vec![7], wave(1_001, 7), wave(100_000, 37)] {
+        for (voice, ct_octave) in [(looped(), 0), (looped(), 255), (stereo(), 3)] {
+            let channels = vec![
+                ChannelSamples {
+                    octaves: vec![samples.clone()]
+                };
+                voice.channels.len()
+            ];
+            let header = VoiceHeader {
+                ct_octave,
+                ..VoiceHeader::default()
+            };
+            voices.push(Voice {
+                header,
+                channels,
+                ..voice
+            });
+        }
+    }
+    // 0 octaves count as 1.
+    let mut voice = stereo();
+    voice.header.ct_octave = 0;
+    voices.push(voice);
+    for mut voice in voices {
+        comes_back(&folder, &folder.voice("v", &voice));
+        voice.header.compression_byte = 1;
+        comes_back(&folder, &folder.voice("v", &voice));
+    }
+    comes_back(&folder, &folder.file("v", &EXAMPLE));
+}
+
+#[test]
+fn every_voice_of_the_repository_is_stored_and_comes_back() {
+    let folder = Folder::new("vault-voices");
+    for path in [repository(""), repository("unplayable")].concat() {
+        let bytes = fs::read(&path).expect("a file");
+        let voice = svx::parse_voice(&bytes).expect("a voice");
+        assert!(svx::encode_voice(&voice) == Ok(bytes), "{}", path.display());
+        comes_back(&folder, &path);
+    }
+}
+
+/// A FORM 8SVX of these chunks, each padded.
+fn form(chunks: &[(&[u8; 4], &[u8])]) -> Vec<u8> {
+    let mut bytes = b"8SVX".to_vec();
+    for (id, payload) in chunks {
+        bytes.extend(*id);
+        bytes.extend((payload.len() as u32).to_be_bytes());
+        bytes.extend(*payload);
+        bytes.resize(bytes.len().next_multiple_of(2), 0);
+    }
+    let length = (bytes.len() as u32).to_be_bytes();
+    [b"FORM", &length[..], &bytes].concat()
+}
+
+/// Files that are read, but of which writing gives others.
+fn uncommon() -> Vec<Vec<u8>> {
+    let (vhdr, body) = (&EXAMPLE[20..40], &[0xFE][..]);
+    let packed = [&vhdr[..15], &[1], &vhdr[16..]].concat();
+    let long_vhdr = [vhdr, &[0, 0]].concat();
+    let pan = 65_536u32.to_be_bytes();
+    let mut padded_with_1 = EXAMPLE.to_vec();
+    padded_with_1[49] = 1;
+    vec![
+        form(&[(b"VHDR", vhdr), (b"XYZW", b"more"), (b"BODY", body)]),
+        form(&[(b"BODY", body), (b"VHDR", vhdr)]),
+        form(&[(b"VHDR", vhdr), (b"BODY", body), (b"NAME", b"late")]),
+        form(&[(b"PAN ", &pan), (b"VHDR", vhdr), (b"BODY", body)]),
+        form(&[(b"VHDR", vhdr), (b"NAME", b" tidy "), (b"BODY", body)]),
+        form(&[(b"VHDR", vhdr), (b"NAME", b"cut\0here"), (b"BODY", body)]),
+        form(&[(b"VHDR", vhdr), (b"NAME", b"K\xFCnstler"), (b"BODY", body)]),
+        form(&[(b"VHDR", vhdr), (b"NAME", b""), (b"BODY", body)]),
+        form(&[(b"VHDR", &long_vhdr), (b"BODY", body)]),
+        form(&[(b"VHDR", vhdr), (b"BODY", &[0xFE, 1, 2])]),
+        // Fibonacci: the first byte isn't 0, and a sample more than there are in the octaves.
+        form(&[(b"VHDR", &packed), (b"BODY", &[9, 0xFE])]),
+        form(&[(b"VHDR", &packed), (b"BODY", &[0, 0xFE, 0x88])]),
+        [&EXAMPLE[..], &[0]].concat(),
+        [&EXAMPLE[..], b"after the FORM"].concat(),
+        padded_with_1,
+    ]
+}
+
+#[test]
+fn vault_turns_back_what_would_not_come_back() {
+    let folder = Folder::new("vault-anew");
+    let (out, back, again) = (folder.path("out"), folder.path("back"), folder.path("again"));
+    let words = "v: what comes back wouldn't be this file byte for byte; --anew stores the voice all the same\n";
+    for file in uncommon() {
+        let path = folder.file("v", &file);
+        run(&[&"check", &path]).well();
+        run(&[&"vault", &path, &out]).fails(2, words);
+        run(&[&"vault", &path, &out, &"--force"]).fails(2, words);
+        run(&[&"vault", &path, &"-"]).fails(2, words);
+        assert_eq!(folder.names(), "v");
+        let ran = run(&[&"vault", &path, &out, &"--anew"]).well();
+        let facts = ", 1 channel of 1 sample; the voice will be written anew\n";
+        assert!(ran.out.ends_with(facts), "{}", ran.out);
+        run(&[&"vault", &"--restore", &out, &back]).well();
+        run(&[&"rewrite", &path, &again]).well();
+        assert!(folder.read("back") == folder.read("again") && folder.read("back") != file);
+        // Once written anew it comes back as it is.
+        comes_back(&folder, &again);
+        for name in ["out", "back", "again", "stored"] {
+            fs::remove_file(folder.path(name)).expect("a file");
+        }
+    }
+    // What comes back the same isn't written anew.
+    let path = folder.voice("v", &stereo());
+    let ran = run(&[&"vault", &path, &out, &"--anew"]).well();
+    assert!(ran.out.ends_with(" bytes, 2 channels of 3 samples\n"), "{}", ran.out);
+    run(&[&"vault", &"--restore", &out, &back]).well();
+    assert_eq!(folder.read("back"), folder.read("v"));
+}
+
+/// Restoring a file ends with a status and one line of these words, and writes nothing.
+fn is_not_restored(folder: &Folder, file: &[u8], status: i32, words: &str) {
+    let (path, out) = (folder.file("stored", file), folder.path("out"));
+    let words = format!("stored: {words}");
+    run(&[&"vault", &"--restore", &path, &out]).fails(status, &words);
+    run(&[&"vault", &"--restore", &path, &"-"]).fails(status, &words);
+    folder.old_files(&["old"]);
+    run(&[&"vault", &"--restore", &path, &folder.path("old"), &"--force"]).fails(status, &words);
+    folder.are_kept(&["old"]);
+    assert_eq!(folder.names(), "old stored");
+}
+
+#[test]
+fn a_stored_voice_in_a_wrong_form_is_told() {
+    let folder = Folder::new("vault-form");
+    let sheet = Sheet::of(&stereo()).expect("a sheet");
+    let good = stored(sheet.bytes(), sheet.left(), sheet.right());
+    let total = good.len();
+    let unlike = "isn't a stored voice, which begins with 8SVXDIFF\n";
+    for length in 0..total {
+        let words = match length {
+            0..8 => unlike.to_string(),
+            8..32 => format!("has {length} bytes, but a stored voice has at least 32\n"),
+            _ => format!("has {length} bytes, but by the lengths in it should have {total}\n"),
+        };
+        is_not_restored(&folder, &good[..length], 2, &words);
+    }
+    let longer = [&good[..], &[0]].concat();
+    is_not_restored(
+        &folder,
+        &longer,
+        2,
+        &format!("has {} bytes, but by the lengths", total + 1),
+    );
+    for place in 0..8 {
+        let mut other = good.clone();
+        other[place] ^= 0x20;
+        is_not_restored(&folder, &other, 2, unlike);
+    }
+    // A voice isn't a stored one, nor the other way round.
+    is_not_restored(&folder, &EXAMPLE, 2, unlike);
+    let path = folder.file("stored", &good);
+    run(&[&"vault", &path, &folder.path("out")]).fails(1, "stored: refused by 2: ");
+    run(&[&"vault", &"--restore", &"/dev/zero", &folder.path("out")]).fails(2, unlike);
+    assert_eq!(folder.names(), "old stored");
+}
+
+#[test]
+fn lengths_that_do_not_add_up_are_told() {
+    let folder = Folder::new("vault-lengths");
+    let sheet = Sheet::of(&stereo()).expect("a sheet");
+    // A header of 21 bytes and a CHAN of 2.
+    let (most, n) = (u64::MAX, 23);
+    let with = |lengths| {
+        let parts = stored(sheet.bytes(), sheet.left(), sheet.right());
+        [&with_lengths(lengths)[..], &parts[32..]].concat()
+    };
+    let more = "the lengths in it are together more than 64 bits can count\n";
+    for lengths in [
+        [most, most, most],
+        [most, 0, 0],
+        [0, most, 0],
+        [0, 0, most],
+        [most - 31, 0, 0],
+        [n, 3, most - n - 34],
+        // These come to the file's own length if what is past 64 bits is dropped.
+        [n, most, 7],
+        [1 << 63, 1 << 63, n + 6],
+        [n, 3 + (1 << 63), 3 + (1 << 63)],
+    ] {
+        is_not_restored(&folder, &with(lengths), 2, more);
+    }
+    let words = |lengths: &str| format!("has {} bytes, but by the lengths in it should have {lengths}\n", n + 38);
+    is_not_restored(
+        &folder,
+        &with([most - 32, 0, 0]),
+        2,
+        &words("18,446,744,073,709,551,615"),
+    );
+    is_not_restored(&folder, &with([0, 0, 0]), 2, &words("32"));
+    is_not_restored(&folder, &with([n + 1, 3, 3]), 2, &words(&(n + 39).to_string()));
+    is_not_restored(&folder, &with([n, 3, 2]), 2, &words(&(n + 37).to_string()));
+    is_not_restored(&folder, &with([n, 3, 3 + (1 << 32)]), 2, &words("4,294,967,357"));
+    // They add up, but aren't the parts' own: the library looks at these.
+    for lengths in [[n, 4, 2], [n, 6, 0], [n, 0, 6]] {
+        is_not_restored(&folder, &with(lengths), 1, "refused by 18: ");
+    }
+    is_not_restored(&folder, &with([0, n + 6, 0]), 1, "refused by 16: ");
+    is_not_restored(&folder, &with([n - 1, 4, 3]), 1, "refused by 15: ");
+}
+
+#[test]
+fn a_stored_voice_that_is_not_sound_is_refused() {
+    let folder = Folder::new("vault-unsound");
+    let sheet = |one_shot: u8, octaves: u8, compression: u8, rest: &[u8]| {
+        let header = [
+            1,
+            0,
+            0,
+            0,
+            one_shot,
+            0,
+            0,
+            0,
+            0,
+            0,
+            0,
+            0,
+            0,
+            0x1F,
+            0x40,
+            octaves,
+            compression,
+            0,
+            1,
+            0,
+            0,
+        ];
+        [&header[..], rest].concat()
+    };
+    // Good ones, of one channel and of two, with values that no file was stored in.
+    for (rest, right) in [(&[][..], &[][..]), (&[2, 6], &[9, 9, 9])] {
+        let path = folder.file("stored", &stored(&sheet(1, 2, 0, rest), &[5, 5, 5], right));
+        let back = run(&[&"vault", &"--restore", &path, &"-"]).well().bytes;
+        let voice = svx::parse_voice(&back).expect("a voice");
+        assert_eq!(voice.channels[0].octaves, [vec![5], vec![5, 10]]);
+        assert_eq!(voice.channels.len(), 1 + right.len() / 3);
+    }
+    for (number, sheet, left, right) in [
+        (15, sheet(1, 1, 0, &[3, 0, 0]), &[1][..], &[][..]),
+        (15, sheet(1, 1, 0, &[2]), &[1], &[]),
+        (15, vec![1], &[1], &[]),
+        (16, vec![], &[], &[]),
+        (16, vec![2, 6], &[1], &[1]),
+        (16, sheet(1, 1, 0, &[12]), &[1], &[]),
+        (16, sheet(1, 1, 0, &[2, 5]), &[1], &[]),
+        (16, sheet(1, 1, 0, &[10, 6]), &[1], &[]),
+        (16, sheet(1, 1, 0, &sheet(1, 1, 0, &[])), &[1], &[]),
+        (17, sheet(1, 1, 0, &[10, 1, 11, 0xFF]), &[1], &[]),
+        (10, sheet(1, 1, 2, &[]), &[1], &[]),
+        (13, sheet(2, 64, 0, &[]), &[1], &[]),
+        (13, sheet(1, 255, 0, &[]), &[], &[]),
+        (18, sheet(2, 1, 0, &[]), &[1], &[]),
+        (18, sheet(1, 1, 0, &[]), &[1, 2], &[]),
+        (18, sheet(1, 0, 0, &[]), &[], &[]),
+        (18, sheet(1, 2, 0, &[]), &[1, 2], &[]),
+        (18, sheet(1, 1, 0, &[]), &[1], &[1]),
+        (18, sheet(1, 1, 0, &[2, 2]), &[1], &[1]),
+        (18, sheet(1, 1, 0, &[2, 6]), &[1], &[]),
+        (18, sheet(0, 1, 0, &[2, 6]), &[1, 2], &[1]),
+    ] {
+        let words = format!("refused by {number}: ");
+        is_not_restored(&folder, &stored(&sheet, left, right), 1, &words);
+        // Compressed or not.
+        if sheet.len() > 16 && number != 10 {
+            let packed = [&sheet[..16], &[1], &sheet[17..]].concat();
+            is_not_restored(&folder, &stored(&packed, left, right), 1, &words);
+        }
+        fs::remove_file(folder.path("old")).expect("a file");
+    }
+}
+
+#[test]
+fn vault_writes_over_no_file() {
+    let folder = Folder::new("vault-taken");
+    let path = folder.voice("v", &looped());
+    run(&[&"vault", &path, &folder.path("s")]).well();
+    let (bytes, values) = (folder.read("v"), folder.read("s"));
+    let store = folder.path("s");
+    folder.old_files(&["out"]);
+    symlink("out", folder.path("link")).expect("a link");
+    symlink("missing", folder.path("nowhere")).expect("a link");
+    fs::hard_link(&path, folder.path("hard-v")).expect("a second name");
+    fs::hard_link(&store, folder.path("hard-s")).expect("a second name");
+    let names = folder.names();
+    // Storing and restoring alike, with these options before the files.
+    for (file, itself, option) in [
+        (&path, ["v", "hard-v"], "--anew"),
+        (&store, ["s", "hard-s"], "--restore"),
+    ] {
+        let to = |name: &str, options: &[&str]| {
+            let out = folder.path(name);
+            let mut arguments: Vec<&dyn AsRef<OsStr>> = vec![&"vault", &option, file, &out];
+            options.iter().for_each(|option| arguments.push(option));
+            run(&arguments)
+        };
+        for name in ["out", "link", "nowhere"] {
+            to(name, &[]).fails(2, &format!("{name}: is there already; --force writes over it"));
+        }
+        for name in itself {
+            to(name, &[]).fails(2, &format!("{name}: is the file that is read; it isn't written over"));
+            to(name, &["--force"]).fails(2, "isn't written over");
+        }
+        to("missing/out", &["--force"]).fails(2, "missing/out: no such file or directory");
+        to("", &["--force"]).fails(2, "directory");
+        to("/dev/null", &[]).fails(2, "is there already");
+        to("/dev/null", &["--force"]).well();
+        if Path::new("/dev/full").exists() {
+            to("/dev/full", &["--force"]).fails(2, "/dev/full: no space left");
+        }
+        assert_eq!(folder.names(), names);
+        folder.are_kept(&["out"]);
+    }
+    assert_eq!((folder.read("v"), folder.read("s")), (bytes.clone(), values.clone()));
+    // By force, through a link, which stays; and the file keeps its permissions.
+    fs::set_permissions(folder.path("out"), Permissions::from_mode(0o640)).expect("permissions");
+    run(&[&"vault", &path, &folder.path("link"), &"--force"]).well();
+    assert_eq!(folder.read("out"), values);
+    run(&[&"vault", &"--restore", &store, &folder.path("link"), &"--force"]).well();
+    assert_eq!(folder.read("out"), bytes);
+    let about = fs::metadata(folder.path("out")).expect("a file");
+    assert_eq!(about.permissions().mode() & 0o777, 0o640);
+    assert!(folder.path("link").is_symlink());
+    assert_eq!(folder.names(), names);
+}
+
+#[test]
+fn what_cannot_be_stored_in_full_is_removed() {
+    let folder = Folder::new("vault-half");
+    let mut voice = looped();
+    voice.header.one_shot_hi_samples = 3_000;
+    voice.header.repeat_hi_samples = 0;
+    voice.channels[0].octaves = vec![wave(3_000, 7), wave(6_000, 7)];
+    let (path, store) = (folder.voice("v", &voice), folder.path("s"));
+    run(&[&"vault", &path, &store]).well();
+    folder.old_files(&["out"]);
+    for (option, file) in [("--anew", &path), ("--restore", &store)] {
+        run_in_little_room(&[&"vault", &option, file, &folder.path("new")]).fails(2, "new: file too large");
+        run_in_little_room(&[&"vault", &option, file, &folder.path("out"), &"--force"]).fails(2, "out: file too large");
+    }
+    assert_eq!(folder.names(), "out s v");
+    folder.are_kept(&["out"]);
+}
+
 /// Whether every element of an XML text is closed in its place.
 fn well_formed(text: &str) -> bool {
     let mut open: Vec<&str> = Vec::new();
@@ -1547,7 +1994,7 @@ fn the_input_is_not_written_over() {
     );
     symlink(&path, &link).expect("a link");
     fs::hard_link(&path, &hard).expect("a second name");
-    for command in ["stem", "wave", "raw", "rewrite", "draw"] {
+    for command in ["stem", "wave", "raw", "rewrite", "vault", "draw"] {
         for out in [
             &path,
             &link,
@@ -1559,6 +2006,7 @@ fn the_input_is_not_written_over() {
         ] {
             run(&[&command, &path, out]).fails(2, "isn't written over");
             run(&[&"wave", &path, out, &"--force"]).fails(2, "isn't written over");
+            run(&[&"vault", &path, out, &"--force"]).fails(2, "isn't written over");
         }
         run(&[&command, &link, &path]).fails(2, "isn't written over");
         assert_eq!(fs::read(&path).expect("a file"), bytes);
@@ -1569,10 +2017,10 @@ fn the_input_is_not_written_over() {
 fn output_that_cannot_be_written_is_2() {
     let folder = Folder::new("output");
     let path = folder.file("example.8svx", &EXAMPLE);
-    for command in ["stem", "wave", "raw", "rewrite", "draw"] {
+    for command in ["stem", "wave", "raw", "rewrite", "vault", "draw"] {
         run(&[&command, &path, &folder.path("missing/out")]).fails(2, "no such file or directory");
         run(&[&command, &path, &folder.0]).fails(2, "is a directory");
-        if Path::new("/dev/full").exists() && command != "wave" {
+        if Path::new("/dev/full").exists() && !["wave", "vault"].contains(&command) {
             run(&[&command, &path, &"/dev/full"]).fails(2, "/dev/full: no space left");
         }
     }
@@ -1591,7 +2039,8 @@ fn a_file_that_cannot_be_finished_is_removed() {
 fn a_reader_that_goes_away_is_no_failure() {
     let folder = Folder::new("pipe");
     let path = folder.voice("looped.8svx", &looped());
-    let script = "\"$@\" | head -c 100 | wc -c; \"$1\" info \"$3\" | true; \"$1\" wave \"$3\" - | true";
+    let script = "\"$@\" | head -c 100 | wc -c; \"$1\" info \"$3\" | true; \"$1\" wave \"$3\" - | true; \
+                  \"$1\" vault \"$3\" - | true";
     let mut command = Command::new("sh");
     command
         .args(["-c", script, "sh", env!("CARGO_BIN_EXE_svx"), "stem"])
@@ -1725,6 +2174,8 @@ fn every_damaged_voice_is_refused_by_its_number() {
         assert_eq!(ran.out.lines().count(), 1);
         run(&[&"info", &path]).fails(1, &line);
         run(&[&"wave", &path, &folder.path("out.wav"), &"--all"]).fails(1, &line);
+        run(&[&"vault", &path, &folder.path("out")]).fails(1, &line);
+        run(&[&"vault", &path, &folder.path("out"), &"--anew"]).fails(1, &line);
     }
     assert_eq!(folder.names(), "");
     for path in repository("unplayable") {

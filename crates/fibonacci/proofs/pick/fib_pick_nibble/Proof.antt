@@ -9,7 +9,8 @@ use mir.Val.{toZ, ofZ}
 use mir.Facts.{toZ-ofZ}
 use borrow.Author.Needs.{needs}
 use Rattle.laws.proofs.Signed.{zarith, known, back}
-use Rattle.fibonacci.specs.Step.{deltas, toSample, fibStep}
+use Rattle.field.specs.Wrap.{toSample}
+use Rattle.fibonacci.specs.Step.{deltas, fibStep}
 use Rattle.fibonacci.specs.Helpers.{nearestStep}
 use Rattle.fibonacci.specs.declared.pick.NearestStep.{NearestStep}
 use Rattle.fibonacci.specs.declared.pick.Picked.{Picked}

@@ -7,8 +7,8 @@ use lib.IntN.{natAbs, _+ℤ_, _-ℤ_}
 use mir.Syntax.{w8}
 use mir.Facts.{toZ-ofZ}
 use Rattle.laws.proofs.Signed.{back}
-use Rattle.fibonacci.specs.Step.{toSample}
-use Rattle.fibonacci.proofs.WrapLaws.{sample-fits}
+use Rattle.field.specs.Wrap.{toSample}
+use Rattle.field.proofs.WrapLaws.{sample-fits}
 use Rattle.fibonacci.proofs.SearchLaws.{apart-below}
 use Rattle.fibonacci.proofs.search.key.Statement.{statement}
 use Rattle.fibonacci.proofs.search.key.Tie as tie

@@ -6,12 +6,12 @@ use borrow.Author.Needs.{needs}
 use lib.ListN.{length}
 use Rattle.refusal.specs.Outcome.{lengthOf}
 use Rattle.body_read.specs.Sides.{Sides}
-use Rattle.octaves.specs.Octave.{octavePart}
+use Rattle.octaves.specs.Octave.{octavePart, octaveOf}
 use Rattle.octaves.specs.Part.{partOf}
 use Rattle.sheet.specs.Read.{readSheet}
 use Rattle.sheet.specs.Voice.{Voice}
 use Rattle.wave.specs.Helpers.{lengthFor}
-use Rattle.wave.specs.Wave.{channelsOf, octaveOf}
+use Rattle.wave.specs.Wave.{channelsOf}
 use Rattle.wave.proofs.WaveLaws.{wave-refused, wave-length}
 use Rattle.wave.proofs.measure.sound_length.Statement.{statement}
 use Rattle.wave.proofs.measure.sound_length.Tie as tie

@@ -5,11 +5,11 @@ use borrow.Author.Needs.{needs}
 use mir.Syntax.{w8}
 use mir.Facts.{toZ-ofZ}
 use Rattle.laws.proofs.Signed.{back}
 use Rattle.field.specs.Signed.{sampleOf}
-use Rattle.fibonacci.specs.Step.{toSample}
-use Rattle.fibonacci.proofs.WrapLaws.{residue-sum}
-use Rattle.fibonacci.proofs.step.sample_sum.Statement.{statement}
-use Rattle.fibonacci.proofs.step.sample_sum.Tie as tie
+use Rattle.field.specs.Wrap.{toSample}
+use Rattle.field.proofs.WrapLaws.{residue-sum}
+use Rattle.field.proofs.wrap.sample_sum.Statement.{statement}
+use Rattle.field.proofs.wrap.sample_sum.Tie as tie
 
 byte-of-sample-requires : tie.Need-byte-of-sample-requires
 byte-of-sample-requires c κs = search needs
