@@ -2,7 +2,6 @@
 mod codec;
 mod crossings;
 mod headers;
-mod orders;
 mod sheets;
 mod texts;
 mod waves;
@@ -14,5 +13,4 @@ fn main() {
     texts::run();
     waves::run();
     crossings::run();
-    orders::run();
 }

@@ -36,7 +36,7 @@ fn channel_refusal(h: VoiceHeader, n: usize) -> u8
 }
 
 // An octave the one way or the other.
-fn turn_octave(direction: Direction, octave: &[i8], out: &mut [i8])
+fn convert_octave(direction: Direction, octave: &[i8], out: &mut [i8])
     requires { ⌜ length (now out) ≡ length (now octave) ⌝ }
     ensures { λ _. ⌜ now (out .exit) ≡ octaveBy direction (now (octave .entry)) ⌝ }
 {
@@ -56,24 +56,24 @@ fn octave_end(h: VoiceHeader, at: usize) -> usize
 }
 
 // All octaves of a channel that suits the header.
-fn turn_octaves(direction: Direction, h: VoiceHeader, channel: &[i8], out: &mut [i8])
+fn convert_octaves(direction: Direction, h: VoiceHeader, channel: &[i8], out: &mut [i8])
     requires { ⌜ Whole h (length (now channel)) × (length (now out) ≡ length (now channel)) ⌝ }
     ensures { λ _. ⌜ now (out .exit) ≡ eachOctave (octaveBy direction) h (now (channel .entry)) ⌝ }
 {
     if h.hi_octave_samples() == 0 {
-        return turn_octave(direction, channel, out);
+        return convert_octave(direction, channel, out);
     }
     let n = channel.len();
     let mut at = 0;
     while at < n {
         let end = octave_end(h, at);
-        turn_octave(direction, &channel[at..end], &mut out[at..end]);
+        convert_octave(direction, &channel[at..end], &mut out[at..end]);
         at = end;
     }
 }
 
 // A channel the one way or the other. 13, 18, 20 in that order.
-fn turn_channel(direction: Direction, h: VoiceHeader, channel: &[i8], out: &mut [i8]) -> Output
+fn convert_channel(direction: Direction, h: VoiceHeader, channel: &[i8], out: &mut [i8]) -> Output
     ensures result { λ r. ⌜ r ≡ answer (byOctave (octaveBy direction) h (now (channel .entry))) (length (now (out .entry))) ⌝ }
     ensures buffer { λ _. ⌜ now (out .exit) ≡ bufferAfter (byOctave (octaveBy direction) h (now (channel .entry))) (now (out .entry)) ⌝ }
 {
@@ -85,7 +85,7 @@ fn turn_channel(direction: Direction, h: VoiceHeader, channel: &[i8], out: &mut 
     if out.len() < n {
         return Output::Refused(refusal::BUFFER_SHORT);
     }
-    turn_octaves(direction, h, channel, &mut out[..n]);
+    convert_octaves(direction, h, channel, &mut out[..n]);
     Output::Length(n)
 }
 
@@ -95,7 +95,7 @@ pub fn difference_order(h: VoiceHeader, samples: &[i8], out: &mut [i8]) -> Outpu
     ensures result { λ r. ⌜ r ≡ answer (differenceOrder h (now (samples .entry))) (length (now (out .entry))) ⌝ }
     ensures buffer { λ _. ⌜ now (out .exit) ≡ bufferAfter (differenceOrder h (now (samples .entry))) (now (out .entry)) ⌝ }
 {
-    turn_channel(Direction::Order, h, samples, out)
+    convert_channel(Direction::Order, h, samples, out)
 }
 
 // The channel that these values are the difference order of.
@@ -103,5 +103,5 @@ pub fn difference_restore(h: VoiceHeader, values: &[i8], out: &mut [i8]) -> Outp
     ensures result { λ r. ⌜ r ≡ answer (differenceRestore h (now (values .entry))) (length (now (out .entry))) ⌝ }
     ensures buffer { λ _. ⌜ now (out .exit) ≡ bufferAfter (differenceRestore h (now (values .entry))) (now (out .entry)) ⌝ }
 {
-    turn_channel(Direction::Restore, h, values, out)
+    convert_channel(Direction::Restore, h, values, out)
 }

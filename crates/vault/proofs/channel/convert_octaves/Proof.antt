@@ -1,4 +1,4 @@
--- `vault::channel::turn_octaves` meets its contract: where hi = 0 the channel is its only octave; else the loop has done the octaves before `at`.
+-- `vault::channel::convert_octaves` meets its contract: where hi = 0 the channel is its only octave; else the loop has done the octaves before `at`.
 -- Assumes nothing.
 use mathlib.Core.Path.{_≡_, refl, sym, ap, _∙_}
 use Prim.Native.Nat.{_+_, _-_, _≤_, _<_}
@@ -10,8 +10,8 @@ use Rattle.header.specs.Octaves.{hi, totalSamples}
 use Rattle.vault.specs.Helpers.{octaveBy}
 use Rattle.vault.proofs.ChannelLaws.{sole-each, whole-all, Reached, reached-none, reached-end, reached-next, reached-length, reached-all}
 use Rattle.vault.proofs.BackLaws.{by-length}
-use Rattle.vault.proofs.channel.turn_octaves.Statement.{statement}
-use Rattle.vault.proofs.channel.turn_octaves.Tie as tie
+use Rattle.vault.proofs.channel.convert_octaves.Statement.{statement}
+use Rattle.vault.proofs.channel.convert_octaves.Tie as tie
 
 abbrev Inv-loop : tie.InvT-loop
 Inv-loop direction h channel out₀ n at₀ out at = (at ≤ n) × (length out ≡ length out₀) × Reached (octaveBy direction) h channel out₀ out at
@@ -43,14 +43,14 @@ turn c = c .before .before .before .before .before .before
 hi-octave-samples-requires : tie.Need-hi-octave-samples-requires Inv-loop μ-loop
 hi-octave-samples-requires c κs = search needs
 
-turn-octave-requires : tie.Need-turn-octave-requires Inv-loop μ-loop
-turn-octave-requires c κs = c .before .before .before .pre .1
+convert-octave-requires : tie.Need-convert-octave-requires Inv-loop μ-loop
+convert-octave-requires c κs = c .before .before .before .pre .1
 
 same-length : tie.Need-same-length Inv-loop μ-loop
 same-length c = search needs
 
 returns : tie.Need-returns Inv-loop μ-loop
-returns c = c .before .turn-octave .ensures ∙ sym (sole-each (octaveBy (c .before .before .before .before .before .args .direction)) (c .before .before .before .before .before .args .h) _ (sym (c .before .before .before .before .hi-octave-samples .ensures) ∙ c .before .before .before .if1 .taken))
+returns c = c .before .convert-octave .ensures ∙ sym (sole-each (octaveBy (c .before .before .before .before .before .args .direction)) (c .before .before .before .before .before .args .h) _ (sym (c .before .before .before .before .hi-octave-samples .ensures) ∙ c .before .before .before .if1 .taken))
 
 loop-holds : tie.Need-loop-holds Inv-loop μ-loop
 loop-holds c = (omega arith, refl, reached-none (octaveBy (c .before .before .args .direction)) (c .before .before .args .h) (c .before .before .args .channel .now) (c .before .before .args .out .now))
@@ -58,26 +58,26 @@ loop-holds c = (omega arith, refl, reached-none (octaveBy (c .before .before .ar
 octave-end-requires : tie.Need-octave-end-requires Inv-loop μ-loop
 octave-end-requires c κs = omega (arith, end (c .before) (c .loop-test .taken))
 
-sub-turn-octave : tie.Need-sub-turn-octave Inv-loop μ-loop
-sub-turn-octave c = omega (arith, c .octave-end .ensures)
+sub-convert-octave : tie.Need-sub-convert-octave Inv-loop μ-loop
+sub-convert-octave c = omega (arith, c .octave-end .ensures)
 
-part-turn-octave-start : tie.Need-part-turn-octave-start Inv-loop μ-loop
-part-turn-octave-start c = omega (arith, c .octave-end .ensures, end (c .before .before) (c .before .loop-test .taken))
+part-convert-octave-start : tie.Need-part-convert-octave-start Inv-loop μ-loop
+part-convert-octave-start c = omega (arith, c .octave-end .ensures, end (c .before .before) (c .before .loop-test .taken))
 
-part-turn-octave-end : tie.Need-part-turn-octave-end Inv-loop μ-loop
-part-turn-octave-end c = omega (arith, c .octave-end .ensures, end (c .before .before) (c .before .loop-test .taken))
+part-convert-octave-end : tie.Need-part-convert-octave-end Inv-loop μ-loop
+part-convert-octave-end c = omega (arith, c .octave-end .ensures, end (c .before .before) (c .before .loop-test .taken))
 
-sub-turn-octave-2 : tie.Need-sub-turn-octave-2 Inv-loop μ-loop
-sub-turn-octave-2 c = omega (arith, c .before .octave-end .ensures)
+sub-convert-octave-2 : tie.Need-sub-convert-octave-2 Inv-loop μ-loop
+sub-convert-octave-2 c = omega (arith, c .before .octave-end .ensures)
 
-part-turn-octave-start-2 : tie.Need-part-turn-octave-start-2 Inv-loop μ-loop
-part-turn-octave-start-2 c = omega (arith, c .before .octave-end .ensures, end (c .before .before .before) (c .before .before .loop-test .taken))
+part-convert-octave-start-2 : tie.Need-part-convert-octave-start-2 Inv-loop μ-loop
+part-convert-octave-start-2 c = omega (arith, c .before .octave-end .ensures, end (c .before .before .before) (c .before .before .loop-test .taken))
 
-part-turn-octave-end-2 : tie.Need-part-turn-octave-end-2 Inv-loop μ-loop
-part-turn-octave-end-2 c = omega (arith, c .before .octave-end .ensures, end (c .before .before .before) (c .before .before .loop-test .taken))
+part-convert-octave-end-2 : tie.Need-part-convert-octave-end-2 Inv-loop μ-loop
+part-convert-octave-end-2 c = omega (arith, c .before .octave-end .ensures, end (c .before .before .before) (c .before .before .loop-test .taken))
 
-turn-octave-requires-2 : tie.Need-turn-octave-requires-2 Inv-loop μ-loop
-turn-octave-requires-2 c κs =
+convert-octave-requires-2 : tie.Need-convert-octave-requires-2 Inv-loop μ-loop
+convert-octave-requires-2 c κs =
     let l = c .before .before .before .before in
     let a = entry l .args in
     let at = l .loop .at in
@@ -96,7 +96,7 @@ loop-again c =
     let ended = c .before .before .before .before .octave-end in
     let more = c .before .before .before .before .before .loop-test .taken in
     let f = octaveBy (a .direction) in
-    let is = c .before .turn-octave2 .ensures in
+    let is = c .before .convert-octave2 .ensures in
     let n = ended .result - at in
     let octave = take n (drop at (a .channel .now)) in
     let octave-long : length octave ≡ n = length-take-le n (drop at (a .channel .now)) (omega (arith, length-drop at (a .channel .now), ended .ensures, end l more)) in
@@ -115,25 +115,25 @@ returns-2 c =
     let a = entry l .args in
     reached-all (octaveBy (a .direction)) (a .h) (some l) (a .channel .now) (all l) (a .out .now) (l .loop .out) (l .loop .at) (l .loop .inv .2) (omega arith) (entry l .pre .1)
 
-pub turn-octaves-spec : {M : Type 1} → statement M
-turn-octaves-spec =
+pub convert-octaves-spec : {M : Type 1} → statement M
+convert-octaves-spec =
     tie.close
     (tie.spec
     Inv-loop
     μ-loop
     hi-octave-samples-requires
-    turn-octave-requires
+    convert-octave-requires
     same-length
     returns
     loop-holds
     octave-end-requires
-    sub-turn-octave
-    part-turn-octave-start
-    part-turn-octave-end
-    sub-turn-octave-2
-    part-turn-octave-start-2
-    part-turn-octave-end-2
-    turn-octave-requires-2
+    sub-convert-octave
+    part-convert-octave-start
+    part-convert-octave-end
+    sub-convert-octave-2
+    part-convert-octave-start-2
+    part-convert-octave-end-2
+    convert-octave-requires-2
     loop-less
     loop-again
     same-length-2

@@ -1,4 +1,4 @@
-// Channels in difference order, and back.
+// Puts channels in difference order and restores them, and prints what comes out.
 use print::first_samples;
 use print::number;
 use print::refused;
@@ -55,7 +55,7 @@ fn restore(hi: u32, octaves: u8, values: &[i8]) {
     );
 }
 
-pub fn run() {
+fn main() {
     order(0, 3, &[1, 4, 9, 16, 25]);
     restore(0, 3, &[1, 5, 9, 3, 7]);
     order(0, 255, &[127, -128, 127, 0]);

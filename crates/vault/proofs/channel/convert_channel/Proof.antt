@@ -1,4 +1,4 @@
--- `vault::channel::turn_channel` meets its contract: a rule that holds turns the channel back, and else the octaves fill the front of the buffer
+-- `vault::channel::convert_channel` meets its contract: a rule that holds turns the channel back, and else the octaves fill the front of the buffer
 -- or don't fit.
 -- Assumes nothing.
 use mathlib.Core.Path.{_≡_, sym, ap, _∙_}
@@ -14,21 +14,21 @@ use Rattle.vault.specs.DifferenceOrder.{eachOctave, channelRules, byOcta
 use Rattle.vault.specs.Helpers.{octaveBy, Whole}
 use Rattle.vault.proofs.BackLaws.{by-length}
 use Rattle.vault.proofs.JudgeLaws.{by-refused, by-gives, none-whole, each-long}
-use Rattle.vault.proofs.channel.turn_channel.Statement.{statement}
-use Rattle.vault.proofs.channel.turn_channel.Tie as tie
+use Rattle.vault.proofs.channel.convert_channel.Statement.{statement}
+use Rattle.vault.proofs.channel.convert_channel.Tie as tie
 
 abbrev entry : tie.Else1 → tie.Start
 entry c = c .before .before
 
 -- no rule turns the channel back
 module _ (c : tie.Else1) where
-  none : _≡_ 0 (firstHolding (channelRules (entry c .args .h) (length (entry c .args .channel .now))))
-  none = sym (c .if1 .left) ∙ c .before .channel-refusal .ensures
+  none : firstHolding (channelRules (entry c .args .h) (length (entry c .args .channel .now))) ≡ 0
+  none = sym (c .before .channel-refusal .ensures) ∙ c .if1 .left
 
   whole : Whole (entry c .args .h) (length (entry c .args .channel .now))
-  whole = none-whole (entry c .args .h) (length (entry c .args .channel .now)) (sym none)
+  whole = none-whole (entry c .args .h) (length (entry c .args .channel .now)) none
 
-  long : _≡_ (length (entry c .args .channel .now)) (length (eachOctave (octaveBy (entry c .args .direction)) (entry c .args .h) (entry c .args .channel .now)))
+  long : length (entry c .args .channel .now) ≡ length (eachOctave (octaveBy (entry c .args .direction)) (entry c .args .h) (entry c .args .channel .now))
   long = let a = entry c .args in sym (each-long (octaveBy (a .direction)) (by-length (a .direction)) (a .h) (a .channel .now) whole)
 
 channel-refusal-requires : tie.Need-channel-refusal-requires
@@ -45,16 +45,16 @@ returns-2 : tie.Need-returns-2
 returns-2 c =
     let a = entry (c .before) .args in
     let f = octaveBy (a .direction) in
-    outcome-short (byOctave f (a .h) (a .channel .now)) (a .out .now) (eachOctave f (a .h) (a .channel .now)) (by-gives f (a .h) (a .channel .now) (none (c .before))) (length (a .channel .now)) (long (c .before)) (c .if2 .taken)
+    outcome-short (byOctave f (a .h) (a .channel .now)) (a .out .now) (eachOctave f (a .h) (a .channel .now)) (by-gives f (a .h) (a .channel .now) (sym (none (c .before)))) (length (a .channel .now)) (long (c .before)) (c .if2 .taken)
 
-slice-relend-prefix-turn-octaves : tie.Need-slice-relend-prefix-turn-octaves
-slice-relend-prefix-turn-octaves c = search needs
+slice-relend-prefix-convert-octaves : tie.Need-slice-relend-prefix-convert-octaves
+slice-relend-prefix-convert-octaves c = search needs
 
-slice-aggregate-turn-octaves : tie.Need-slice-aggregate-turn-octaves
-slice-aggregate-turn-octaves c = let a = entry (c .before .before) .args in sym (length-take-le (length (a .channel .now)) (a .out .now) (omega arith))
+slice-aggregate-convert-octaves : tie.Need-slice-aggregate-convert-octaves
+slice-aggregate-convert-octaves c = let a = entry (c .before .before) .args in sym (length-take-le (length (a .channel .now)) (a .out .now) (omega arith))
 
-turn-octaves-requires : tie.Need-turn-octaves-requires
-turn-octaves-requires c κs =
+convert-octaves-requires : tie.Need-convert-octaves-requires
+convert-octaves-requires c κs =
     let a = entry (c .before .before) .args in
     (whole (c .before .before), length-take-le (length (a .channel .now)) (a .out .now) (omega arith))
 
@@ -67,18 +67,18 @@ returns-3 c =
     let a = entry at .args in
     let f = octaveBy (a .direction) in
     let done = eachOctave f (a .h) (a .channel .now) in
-    outcome-fits (byOctave f (a .h) (a .channel .now)) (a .out .now) done (by-gives f (a .h) (a .channel .now) (none at)) (length (a .channel .now)) (long at) _ (omega arith)
-    (rw (← long at) (ap (λ (l : List ℤ). l ++ drop (length (a .channel .now)) (a .out .now)) (c .before .turn-octaves .ensures)))
+    outcome-fits (byOctave f (a .h) (a .channel .now)) (a .out .now) done (by-gives f (a .h) (a .channel .now) (sym (none at))) (length (a .channel .now)) (long at) _ (omega arith)
+    (rw (← long at) (ap (λ (l : List ℤ). l ++ drop (length (a .channel .now)) (a .out .now)) (c .before .convert-octaves .ensures)))
 
-pub turn-channel-spec : {M : Type 1} → statement M
-turn-channel-spec =
+pub convert-channel-spec : {M : Type 1} → statement M
+convert-channel-spec =
     tie.close
     (tie.spec
     channel-refusal-requires
     returns
     returns-2
-    slice-relend-prefix-turn-octaves
-    slice-aggregate-turn-octaves
-    turn-octaves-requires
+    slice-relend-prefix-convert-octaves
+    slice-aggregate-convert-octaves
+    convert-octaves-requires
     same-length
     returns-3)

@@ -1,8 +1,8 @@
--- `vault::channel::turn_octave` meets its contract: the direction decides.
+-- `vault::channel::convert_octave` meets its contract: the direction decides.
 -- Assumes nothing.
 use borrow.Author.Needs.{needs}
-use Rattle.vault.proofs.channel.turn_octave.Statement.{statement}
-use Rattle.vault.proofs.channel.turn_octave.Tie as tie
+use Rattle.vault.proofs.channel.convert_octave.Statement.{statement}
+use Rattle.vault.proofs.channel.convert_octave.Tie as tie
 
 enum-told : tie.Need-enum-told
 enum-told c = search needs
@@ -28,8 +28,8 @@ same-length-2 c = search needs
 returns-2 : tie.Need-returns-2
 returns-2 c = rw (c .before .before .before .enum-told2 .given .1) (c .before .restore-octave .ensures)
 
-pub turn-octave-spec : {M : Type 1} → statement M
-turn-octave-spec =
+pub convert-octave-spec : {M : Type 1} → statement M
+convert-octave-spec =
     tie.close
     (tie.spec
     enum-told
