@@ -1,7 +1,7 @@
 -- A channel octave by octave: where the octaves lie, how far a loop over them has come, and what is left of an octave that was put through f.
 -- Assumes nothing.
 use Prim.Native.Nat.{ℕ, zero, suc, _+_, _-_, _*_, _^_, _≤_, _<_}
-use mathlib.Core.Bool.{false}
+use mathlib.Core.Bool.{true, false}
 use mathlib.Core.List.{List, _++_, append-nil, append-assoc}
 use mathlib.Core.Logic.{⊎-elim}
 use mathlib.Core.Path.{_≡_, refl, sym, ap, ap₂, _∙_}
@@ -17,13 +17,13 @@ use Rattle.field.specs.Signed.{Samples}
 use Rattle.header.specs.Octaves.{hi, octaves, octavesThere, totalSamples}
 use Rattle.header.specs.declared.«voice_header».VoiceHeader.{VoiceHeader}
 use Rattle.header.proofs.OctaveLaws.{octave-next, octave-end}
+use Rattle.body_read.specs.Sides.{lengthsSuit}
 use Rattle.body_read.proofs.SideLaws.{suit-parts}
 use Rattle.octaves.specs.Octave.{octavePart, octaveOf}
 use Rattle.octaves.specs.Part.{partOf}
 use Rattle.octaves.specs.declared.part.Part.{Part}
 use Rattle.octaves.proofs.PartLaws.{octave-whole, octave-at, part-samples}
 use Rattle.vault.specs.DifferenceOrder.{firstOctaves, eachOctave}
-use Rattle.vault.specs.Helpers.{Whole}
 
 -- ---- where the octaves lie
 
@@ -77,9 +77,9 @@ module _ (h : VoiceHeader) (some : hi h ≡ 0 → ⊥) (channel : List ℤ) (all
     octave-length =
         ap length octave-is ∙ length-take-le (startOf h k + hi h) (drop (startOf h k) channel) (omega (arith, end-within, length-drop (startOf h k) channel))
 
--- what a channel that no rule turns back has
-pub whole-all : (h : VoiceHeader) (n : ℕ) → Whole h n → (hi h ≡ 0 → ⊥) → n ≡ totalSamples h
-whole-all h n w some = eqb-true n (totalSamples h) (rw (ne-eqb (hi h) 0 some) at (suit-parts h false n 0 (w .suits) .0))
+-- a channel whose length suits the header has all octaves
+pub suited-all : (h : VoiceHeader) (n : ℕ) → lengthsSuit h false n 0 ≡ true → (hi h ≡ 0 → ⊥) → n ≡ totalSamples h
+suited-all h n suits some = eqb-true n (totalSamples h) (rw (ne-eqb (hi h) 0 some) at (suit-parts h false n 0 suits .0))
 
 -- ---- the loop over the octaves
 

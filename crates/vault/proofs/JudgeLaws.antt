@@ -1,14 +1,14 @@
 -- What the rules make of a channel: it is refused by the first that holds, or goes octave by octave through f.
 --     by-refused, by-gives     by the number of the first rule that holds
 --     given-none, given-is     the other way, of a channel that was not refused
---     none-whole               a channel that no rule turns back
+--     none-suits               where no rule holds the length suits the header
 --     each-long, each-wise, each-undone     what then is put out
 -- Assumes nothing.
-use Prim.Native.Nat.{ℕ, _^_, _≤_}
+use Prim.Native.Nat.{ℕ, _≤_}
 use mathlib.Core.Bool.{Bool, true, false, not, true≢false}
 use mathlib.Core.List.{List, []}
 use mathlib.Core.Path.{_≡_, refl, sym, ap, _∙_}
-use borrow.Author.Tests.{eqb-true, eqb-false, ne-eqb, leb-false, ltb-true, ltb-false}
+use borrow.Author.Tests.{eqb-true, eqb-false, ne-eqb, ltb-true, ltb-false}
 use lib.Dec.{eqb, ltb}
 use lib.IntN.{ℤ}
 use lib.ListN.{length}
@@ -16,7 +16,7 @@ use Rattle.refusal.specs.Outcome.{gives, refuses}
 use Rattle.refusal.specs.Rules.{firstHolding}
 use Rattle.refusal.proofs.RuleLaws.{none-holds, numbered-by, by-zero}
 use Rattle.field.specs.Signed.{Samples}
-use Rattle.header.specs.Octaves.{hi, octaves, totalSamples}
+use Rattle.header.specs.Octaves.{hi, octaves}
 use Rattle.header.specs.declared.«voice_header».VoiceHeader.{VoiceHeader}
 use Rattle.body_read.specs.Sides.{lengthsSuit}
 use Rattle.octaves.specs.Octave.{octaveOf}
@@ -24,8 +24,7 @@ use Rattle.octaves.specs.Part.{partOf}
 use Rattle.octaves.specs.declared.part.Part.{Part}
 use Rattle.octaves.proofs.PartLaws.{octave-sole, octave-past}
 use Rattle.vault.specs.DifferenceOrder.{eachOctave, channelRules, byOctave}
-use Rattle.vault.specs.Helpers.{Whole}
-use Rattle.vault.proofs.ChannelLaws.{sole-octave, sole-each, whole-all, each-length, each-octave, each-back}
+use Rattle.vault.proofs.ChannelLaws.{sole-octave, sole-each, suited-all, each-length, each-octave, each-back}
 
 -- ---- by the rules
 
@@ -49,10 +48,8 @@ not-not : (b : Bool) → not b ≡ false → b ≡ true
 not-not true e = refl
 not-not false e = absurd (true≢false e)
 
-pub none-whole : (h : VoiceHeader) (n : ℕ) → firstHolding (channelRules h n) ≡ 0 → Whole h n
-none-whole h n none =
-    let passed = none-holds (channelRules h n) (numbered-by (channelRules h n) tt) none in
-    record { counted = leb-false (2 ^ 64) (totalSamples h) (passed .0); suits = not-not (lengthsSuit h false n 0) (passed .1 .0) }
+pub none-suits : (h : VoiceHeader) (n : ℕ) → firstHolding (channelRules h n) ≡ 0 → lengthsSuit h false n 0 ≡ true
+none-suits h n none = not-not (lengthsSuit h false n 0) (none-holds (channelRules h n) (numbered-by (channelRules h n) tt) none .1 .0)
 
 -- ---- what is put out, by whether hi = 0
 
@@ -63,9 +60,9 @@ by-hi {P} h zero some = go (eqb (hi h) 0) refl
     go true e = zero (eqb-true (hi h) 0 e)
     go false e = some (eqb-false (hi h) 0 e)
 
-module _ (f : List ℤ → List ℤ) (same : (l : List ℤ) → length (f l) ≡ length l) (h : VoiceHeader) (channel : List ℤ) (w : Whole h (length channel)) where
+module _ (f : List ℤ → List ℤ) (same : (l : List ℤ) → length (f l) ≡ length l) (h : VoiceHeader) (channel : List ℤ) (suits : lengthsSuit h false (length channel) 0 ≡ true) where
   pub each-long : length (eachOctave f h channel) ≡ length channel
-  each-long = by-hi h (λ z. ap length (sole-each f h channel z) ∙ same channel) (λ some. each-length f same h some channel (whole-all h (length channel) w some))
+  each-long = by-hi h (λ z. ap length (sole-each f h channel z) ∙ same channel) (λ some. each-length f same h some channel (suited-all h (length channel) suits some))
 
   -- octave k of it is octave k put through f; an octave that isn't there has no samples
   module _ (none : f [] ≡ []) (k : ℕ) where
@@ -89,7 +86,7 @@ module _ (f : List ℤ → List ℤ) (same : (l : List ℤ) → length (f l) ≡
     where-some some = go (ltb k (octaves h)) refl
       where
         go : (t : Bool) → ltb k (octaves h) ≡ t → octaveOf h k (eachOctave f h channel) ≡ f (octaveOf h k channel)
-        go true e = each-octave f same h some channel (whole-all h (length channel) w some) k (ltb-true k (octaves h) e)
+        go true e = each-octave f same h some channel (suited-all h (length channel) suits some) k (ltb-true k (octaves h) e)
         go false e = absent (past some (ltb-false k (octaves h) e))
 
     pub each-wise : octaveOf h k (eachOctave f h channel) ≡ f (octaveOf h k channel)
@@ -99,4 +96,4 @@ module _ (f : List ℤ → List ℤ) (same : (l : List ℤ) → length (f l) ≡
   pub each-undone : (g : List ℤ → List ℤ) → ((l : List ℤ) → Samples l → g (f l) ≡ l) → Samples channel → eachOctave g h (eachOctave f h channel) ≡ channel
   each-undone g undoes fits =
       by-hi h (λ z. ap (eachOctave g h) (sole-each f h channel z) ∙ sole-each g h (f channel) z ∙ undoes channel fits)
-      (λ some. each-back f same h some channel (whole-all h (length channel) w some) g undoes fits)
+      (λ some. each-back f same h some channel (suited-all h (length channel) suits some) g undoes fits)

@@ -23,7 +23,7 @@ use Rattle.vault.specs.DifferenceOrder.{lessBefore, differences, octaveO
 use Rattle.vault.specs.Promise.{Promise}
 use Rattle.vault.proofs.BackLaws.{restored-order, ordered-restore, order-length, restored-length}
 use Rattle.vault.proofs.ChannelLaws.{sole-each}
-use Rattle.vault.proofs.JudgeLaws.{by-gives, given-none, given-is, none-whole, each-long, each-wise, each-undone}
+use Rattle.vault.proofs.JudgeLaws.{by-gives, given-none, given-is, none-suits, each-long, each-wise, each-undone}
 
 -- ---- there and back
 
@@ -34,12 +34,12 @@ module _ (f g : List ℤ → List ℤ) (same : (l : List ℤ) → length (f l) �
   none = given-none f h channel out e
 
   long : length out ≡ length channel
-  long = sym (ap length (given-is f h channel out e)) ∙ each-long f same h channel (none-whole h (length channel) none)
+  long = sym (ap length (given-is f h channel out e)) ∙ each-long f same h channel (none-suits h (length channel) none)
 
   back : byOctave g h out ≡ gives channel
   back =
       by-gives g h out (sym (ap (λ (n : ℕ). firstHolding (channelRules h n)) long ∙ none))
-      ∙ ap gives (ap (eachOctave g h) (sym (given-is f h channel out e)) ∙ each-undone f same h channel (none-whole h (length channel) none) g undoes fits)
+      ∙ ap gives (ap (eachOctave g h) (sym (given-is f h channel out e)) ∙ each-undone f same h channel (none-suits h (length channel) none) g undoes fits)
 
 octave-none : octaveOrder [] ≡ []
 unfolding octaveOrder differences evens odds
@@ -47,12 +47,12 @@ octave-none = refl
 
 module _ (h : VoiceHeader) (samples values : List ℤ) (e : differenceOrder h samples ≡ gives values) where
   as-long : length values ≡ length samples
-  as-long = sym (ap length (given-is octaveOrder h samples values e)) ∙ each-long octaveOrder order-length h samples (none-whole h (length samples) (given-none octaveOrder h samples values e))
+  as-long = sym (ap length (given-is octaveOrder h samples values e)) ∙ each-long octaveOrder order-length h samples (none-suits h (length samples) (given-none octaveOrder h samples values e))
 
   octave-wise : (k : ℕ) → octaveOf h k values ≡ octaveOrder (octaveOf h k samples)
   octave-wise k =
       ap (octaveOf h k) (sym (given-is octaveOrder h samples values e))
-      ∙ each-wise octaveOrder order-length h samples (none-whole h (length samples) (given-none octaveOrder h samples values e)) octave-none k
+      ∙ each-wise octaveOrder order-length h samples (none-suits h (length samples) (given-none octaveOrder h samples values e)) octave-none k
 
 -- ---- hi = 0
 

@@ -6,13 +6,15 @@ use header::Total;
 use header::VoiceHeader;
 use refusal::Output;
 ghost use mathlib.Core.Path.{_≡_};
+ghost use mathlib.Core.Bool.{true, false};
 ghost use Prim.Native.Nat.{_+_, _^_, _<_};
 ghost use lib.ListN.{length};
 ghost use Rattle.header.specs.Octaves.{hi};
+ghost use Rattle.body_read.specs.Sides.{lengthsSuit};
 ghost use Rattle.refusal.specs.Outcome.{answer, bufferAfter};
 ghost use Rattle.refusal.specs.Rules.{firstHolding};
 ghost use Rattle.vault.specs.DifferenceOrder.{channelRules, eachOctave, byOctave, differenceOrder, differenceRestore};
-ghost use Rattle.vault.specs.Helpers.{octaveBy, Whole};
+ghost use Rattle.vault.specs.Helpers.{octaveBy};
 
 // Which way a channel goes.
 enum Direction {
@@ -57,7 +59,7 @@ fn octave_end(h: VoiceHeader, at: usize) -> usize
 
 // All octaves of a channel that suits the header.
 fn convert_octaves(direction: Direction, h: VoiceHeader, channel: &[i8], out: &mut [i8])
-    requires { ⌜ Whole h (length (now channel)) × (length (now out) ≡ length (now channel)) ⌝ }
+    requires { ⌜ (lengthsSuit h false (length (now channel)) 0 ≡ true) × (length (now out) ≡ length (now channel)) ⌝ }
     ensures { λ _. ⌜ now (out .exit) ≡ eachOctave (octaveBy direction) h (now (channel .entry)) ⌝ }
 {
     if h.hi_octave_samples() == 0 {

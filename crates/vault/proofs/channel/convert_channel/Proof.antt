@@ -1,6 +1,7 @@
 -- `vault::channel::convert_channel` meets its contract: a rule that holds turns the channel back, and else the octaves fill the front of the buffer
 -- or don't fit.
 -- Assumes nothing.
+use mathlib.Core.Bool.{true, false}
 use mathlib.Core.Path.{_≡_, sym, ap, _∙_}
 use mathlib.Core.List.{List, _++_}
 use native.Mathlib.Omega.{arith}
@@ -8,12 +9,13 @@ use borrow.Author.Needs.{needs}
 use lib.IntN.{ℤ}
 use lib.ListN.{length, drop}
 use lib.Seq.{length-take-le}
+use Rattle.body_read.specs.Sides.{lengthsSuit}
 use Rattle.refusal.specs.Rules.{firstHolding}
 use Rattle.refusal.proofs.OutcomeLaws.{outcome-refused, outcome-fits, outcome-short}
 use Rattle.vault.specs.DifferenceOrder.{eachOctave, channelRules, byOctave}
-use Rattle.vault.specs.Helpers.{octaveBy, Whole}
+use Rattle.vault.specs.Helpers.{octaveBy}
 use Rattle.vault.proofs.BackLaws.{by-length}
-use Rattle.vault.proofs.JudgeLaws.{by-refused, by-gives, none-whole, each-long}
+use Rattle.vault.proofs.JudgeLaws.{by-refused, by-gives, none-suits, each-long}
 use Rattle.vault.proofs.channel.convert_channel.Statement.{statement}
 use Rattle.vault.proofs.channel.convert_channel.Tie as tie
 
@@ -25,11 +27,11 @@ module _ (c : tie.Else1) where
   none : firstHolding (channelRules (entry c .args .h) (length (entry c .args .channel .now))) ≡ 0
   none = sym (c .before .channel-refusal .ensures) ∙ c .if1 .left
 
-  whole : Whole (entry c .args .h) (length (entry c .args .channel .now))
-  whole = none-whole (entry c .args .h) (length (entry c .args .channel .now)) none
+  suits : lengthsSuit (entry c .args .h) false (length (entry c .args .channel .now)) 0 ≡ true
+  suits = none-suits (entry c .args .h) (length (entry c .args .channel .now)) none
 
   long : length (entry c .args .channel .now) ≡ length (eachOctave (octaveBy (entry c .args .direction)) (entry c .args .h) (entry c .args .channel .now))
-  long = let a = entry c .args in sym (each-long (octaveBy (a .direction)) (by-length (a .direction)) (a .h) (a .channel .now) whole)
+  long = let a = entry c .args in sym (each-long (octaveBy (a .direction)) (by-length (a .direction)) (a .h) (a .channel .now) suits)
 
 channel-refusal-requires : tie.Need-channel-refusal-requires
 channel-refusal-requires c κs = search needs
@@ -56,7 +58,7 @@ slice-aggregate-convert-octaves c = let a = entry (c .before .before) .args in s
 convert-octaves-requires : tie.Need-convert-octaves-requires
 convert-octaves-requires c κs =
     let a = entry (c .before .before) .args in
-    (whole (c .before .before), length-take-le (length (a .channel .now)) (a .out .now) (omega arith))
+    (suits (c .before .before), length-take-le (length (a .channel .now)) (a .out .now) (omega arith))
 
 same-length : tie.Need-same-length
 same-length c = search needs

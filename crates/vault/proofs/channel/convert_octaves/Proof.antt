@@ -8,7 +8,7 @@ use lib.ListN.{length, take, drop, length-take, length-drop}
 use lib.Seq.{length-take-le}
 use Rattle.header.specs.Octaves.{hi, totalSamples}
 use Rattle.vault.specs.Helpers.{octaveBy}
-use Rattle.vault.proofs.ChannelLaws.{sole-each, whole-all, Reached, reached-none, reached-end, reached-next, reached-length, reached-all}
+use Rattle.vault.proofs.ChannelLaws.{sole-each, suited-all, Reached, reached-none, reached-end, reached-next, reached-length, reached-all}
 use Rattle.vault.proofs.BackLaws.{by-length}
 use Rattle.vault.proofs.channel.convert_octaves.Statement.{statement}
 use Rattle.vault.proofs.channel.convert_octaves.Tie as tie
@@ -28,7 +28,7 @@ module _ (l : tie.At-loop Inv-loop μ-loop) where
   some e = l .before .if1 .left (l .before .before .hi-octave-samples .ensures ∙ e)
 
   all : length (entry l .args .channel .now) ≡ totalSamples (entry l .args .h)
-  all = whole-all (entry l .args .h) (length (entry l .args .channel .now)) (entry l .pre .0) some
+  all = suited-all (entry l .args .h) (length (entry l .args .channel .now)) (entry l .pre .0) some
 
   end : l .loop .at < length (entry l .args .channel .now) → l .loop .at + (l .loop .at + hi (entry l .args .h)) ≤ length (entry l .args .channel .now)
   end more = reached-end (octaveBy (entry l .args .direction)) (entry l .args .h) some (entry l .args .channel .now) all (entry l .args .out .now) (l .loop .out) (l .loop .at) (l .loop .inv .2) more
