@@ -37,19 +37,19 @@ module _ (f : List ℤ → List ℤ) (h : VoiceHeader) (channel : List ℤ) (z :
   sole-each = rw (eq-eqb (hi h) 0 z) (ap f sole-octave)
 
 -- the places before octave k
-abbrev pub startOf : VoiceHeader → ℕ → ℕ
-startOf h k = hi h * (2 ^ k - 1)
+abbrev pub placesBefore : VoiceHeader → ℕ → ℕ
+placesBefore h k = hi h * (2 ^ k - 1)
 
 -- these and the length of the highest are the length of octave k
-octave-long : (h : VoiceHeader) (k : ℕ) → startOf h k + hi h ≡ hi h * 2 ^ k
+octave-long : (h : VoiceHeader) (k : ℕ) → placesBefore h k + hi h ≡ hi h * 2 ^ k
 octave-long h k =
     let one-more : 2 ^ k - 1 + 1 ≡ 2 ^ k = omega (arith, pow-pos k) in
-    ap (λ (x : ℕ). startOf h k + x) (sym (mul-one (hi h))) ∙ sym (mul-add (hi h) (2 ^ k - 1) 1) ∙ ap (λ (x : ℕ). hi h * x) one-more
+    ap (λ (x : ℕ). placesBefore h k + x) (sym (mul-one (hi h))) ∙ sym (mul-add (hi h) (2 ^ k - 1) 1) ∙ ap (λ (x : ℕ). hi h * x) one-more
 
-pub start-next : (h : VoiceHeader) (k : ℕ) → startOf h k + (startOf h k + hi h) ≡ startOf h (suc k)
-start-next h k = ap (λ (x : ℕ). startOf h k + x) (octave-long h k) ∙ octave-next h k ∙ ap (startOf h) (add-one k)
+pub start-next : (h : VoiceHeader) (k : ℕ) → placesBefore h k + (placesBefore h k + hi h) ≡ placesBefore h (suc k)
+start-next h k = ap (λ (x : ℕ). placesBefore h k + x) (octave-long h k) ∙ octave-next h k ∙ ap (placesBefore h) (add-one k)
 
-start-rises : (h : VoiceHeader) (k m : ℕ) → k < m → startOf h (suc k) ≤ startOf h m
+start-rises : (h : VoiceHeader) (k m : ℕ) → k < m → placesBefore h (suc k) ≤ placesBefore h m
 start-rises h k m l =
     let p : 2 ^ suc k ≤ 2 ^ m = pow-mono l in
     let q : 2 ^ suc k - 1 ≤ 2 ^ m - 1 = omega arith in
@@ -60,22 +60,22 @@ module _ (h : VoiceHeader) (some : hi h ≡ 0 → ⊥) (channel : List ℤ) (all
   pub there : octavesThere h ≡ octaves h
   there = rw (ne-eqb (hi h) 0 some)
 
-  start-all : startOf h (octaves h) ≡ length channel
+  start-all : placesBefore h (octaves h) ≡ length channel
   unfolding totalSamples
   start-all = sym all
 
   module _ (k : ℕ) (l : k < octaves h) where
-    pub end-within : startOf h k + (startOf h k + hi h) ≤ length channel
+    pub end-within : placesBefore h k + (placesBefore h k + hi h) ≤ length channel
     end-within = omega (arith, octave-long h k, octave-end h k l)
 
-    pub octave-is : octaveOf h k channel ≡ take (startOf h k + hi h) (drop (startOf h k) channel)
+    pub octave-is : octaveOf h k channel ≡ take (placesBefore h k + hi h) (drop (placesBefore h k) channel)
     octave-is =
         ap (λ (p : Part). partOf p channel) (octave-at h (length channel) k some l (omega (arith, octave-end h k l)))
-        ∙ ap (λ (n : ℕ). take n (drop (startOf h k) channel)) (sym (octave-long h k))
+        ∙ ap (λ (n : ℕ). take n (drop (placesBefore h k) channel)) (sym (octave-long h k))
 
-    pub octave-length : length (octaveOf h k channel) ≡ startOf h k + hi h
+    pub octave-length : length (octaveOf h k channel) ≡ placesBefore h k + hi h
     octave-length =
-        ap length octave-is ∙ length-take-le (startOf h k + hi h) (drop (startOf h k) channel) (omega (arith, end-within, length-drop (startOf h k) channel))
+        ap length octave-is ∙ length-take-le (placesBefore h k + hi h) (drop (placesBefore h k) channel) (omega (arith, end-within, length-drop (placesBefore h k) channel))
 
 -- a channel whose length suits the header has all octaves
 pub suited-all : (h : VoiceHeader) (n : ℕ) → lengthsSuit h false n 0 ≡ true → (hi h ≡ 0 → ⊥) → n ≡ totalSamples h
@@ -87,7 +87,7 @@ suited-all h n suits some = eqb-true n (totalSamples h) (rw (ne-eqb (hi h) 0 som
 pub record Reached (f : List ℤ → List ℤ) (h : VoiceHeader) (channel held out : List ℤ) (at : ℕ) : Type 0 where
   pub count : ℕ
   pub within : count ≤ octaves h
-  pub start : at ≡ startOf h count
+  pub start : at ≡ placesBefore h count
   pub so-far : out ≡ firstOctaves f h count channel ++ drop at held
 
 pub reached-none : (f : List ℤ → List ℤ) (h : VoiceHeader) (channel held : List ℤ) → Reached f h channel held held 0
@@ -98,7 +98,7 @@ module _ (f : List ℤ → List ℤ) (h : VoiceHeader) (some : hi h ≡ 0 → �
     (held out : List ℤ) (at : ℕ) (r : Reached f h channel held out at) where
   -- before the end there is an octave more
   pub reached-more : at < length channel → r .count < octaves h
-  reached-more more = ⊎-elim (λ e. absurd (omega (arith, r .start, ap (startOf h) e, start-all h some channel all))) (λ l. l) (eq-or-lt-of-le (r .within))
+  reached-more more = ⊎-elim (λ e. absurd (omega (arith, r .start, ap (placesBefore h) e, start-all h some channel all))) (λ l. l) (eq-or-lt-of-le (r .within))
 
   -- it ends within the channel
   pub reached-end : at < length channel → at + (at + hi h) ≤ length channel
@@ -156,7 +156,7 @@ module _ (f : List ℤ → List ℤ) (h : VoiceHeader) (some : hi h ≡ 0 → �
 -- ---- octaves that were put through f
 
 module _ (f : List ℤ → List ℤ) (same : (l : List ℤ) → length (f l) ≡ length l) (h : VoiceHeader) (some : hi h ≡ 0 → ⊥) (channel : List ℤ) (all : length channel ≡ totalSamples h) where
-  pub first-length : (m : ℕ) → m ≤ octaves h → length (firstOctaves f h m channel) ≡ startOf h m
+  pub first-length : (m : ℕ) → m ≤ octaves h → length (firstOctaves f h m channel) ≡ placesBefore h m
   unfolding firstOctaves
   first-length zero l = omega arith
   first-length (suc m) l =
@@ -170,19 +170,19 @@ module _ (f : List ℤ → List ℤ) (same : (l : List ℤ) → length (f l) ≡
     next = f (octaveOf h m channel)
 
     -- the octave past the first m
-    next-octave : take (startOf h m + hi h) (drop (startOf h m) (before ++ next)) ≡ next
+    next-octave : take (placesBefore h m + hi h) (drop (placesBefore h m) (before ++ next)) ≡ next
     next-octave =
-        ap (take (startOf h m + hi h)) (drop-at before next (startOf h m) (first-length m (omega arith)))
-        ∙ take-all (startOf h m + hi h) next (omega (arith, same (octaveOf h m channel), octave-length h some channel all m l))
+        ap (take (placesBefore h m + hi h)) (drop-at before next (placesBefore h m) (first-length m (omega arith)))
+        ∙ take-all (placesBefore h m + hi h) next (omega (arith, same (octaveOf h m channel), octave-length h some channel all m l))
 
     -- an octave of the first m
-    earlier-octave : (k : ℕ) → k < m → take (startOf h k + hi h) (drop (startOf h k) (before ++ next)) ≡ take (startOf h k + hi h) (drop (startOf h k) before)
+    earlier-octave : (k : ℕ) → k < m → take (placesBefore h k + hi h) (drop (placesBefore h k) (before ++ next)) ≡ take (placesBefore h k + hi h) (drop (placesBefore h k) before)
     earlier-octave k p =
-        let inside : startOf h k + (startOf h k + hi h) ≤ length before = omega (arith, start-rises h k m p, start-next h k, first-length m (omega arith)) in
-        ap (take (startOf h k + hi h)) (drop-append-le (startOf h k) before next (omega arith))
-        ∙ take-append-le (startOf h k + hi h) (drop (startOf h k) before) next (omega (arith, length-drop (startOf h k) before))
+        let inside : placesBefore h k + (placesBefore h k + hi h) ≤ length before = omega (arith, start-rises h k m p, start-next h k, first-length m (omega arith)) in
+        ap (take (placesBefore h k + hi h)) (drop-append-le (placesBefore h k) before next (omega arith))
+        ∙ take-append-le (placesBefore h k + hi h) (drop (placesBefore h k) before) next (omega (arith, length-drop (placesBefore h k) before))
 
-  first-octave : (m k : ℕ) → k < m → m ≤ octaves h → take (startOf h k + hi h) (drop (startOf h k) (firstOctaves f h m channel)) ≡ f (octaveOf h k channel)
+  first-octave : (m k : ℕ) → k < m → m ≤ octaves h → take (placesBefore h k + hi h) (drop (placesBefore h k) (firstOctaves f h m channel)) ≡ f (octaveOf h k channel)
   unfolding firstOctaves
   first-octave zero k l r = absurd (omega arith)
   first-octave (suc m) k l r =
@@ -196,23 +196,23 @@ module _ (f : List ℤ → List ℤ) (same : (l : List ℤ) → length (f l) ≡
   pub each-octave : (k : ℕ) → k < octaves h → octaveOf h k (eachOctave f h channel) ≡ f (octaveOf h k channel)
   each-octave k l =
       octave-is h some (eachOctave f h channel) (each-length ∙ all) k l
-      ∙ ap (λ (m : ℕ). take (startOf h k + hi h) (drop (startOf h k) (firstOctaves f h m channel))) (there h some channel all)
+      ∙ ap (λ (m : ℕ). take (placesBefore h k + hi h) (drop (placesBefore h k) (firstOctaves f h m channel))) (there h some channel all)
       ∙ first-octave (octaves h) k l (omega arith)
 
   -- where g undoes f on parts of samples, the channel comes back
   module _ (g : List ℤ → List ℤ) (undoes : (l : List ℤ) → Samples l → g (f l) ≡ l) (fits : Samples channel) where
-    first-back : (m : ℕ) → m ≤ octaves h → firstOctaves g h m (eachOctave f h channel) ≡ take (startOf h m) channel
+    first-back : (m : ℕ) → m ≤ octaves h → firstOctaves g h m (eachOctave f h channel) ≡ take (placesBefore h m) channel
     unfolding firstOctaves
     first-back zero l = rw (mul-zero (hi h))
     first-back (suc m) l =
         let octave = octaveOf h m channel in
         let back : g (octaveOf h m (eachOctave f h channel)) ≡ octave = ap g (each-octave m l) ∙ undoes octave (part-samples (octavePart h (length channel) m) channel fits) in
         ap₂ (λ (a b : List ℤ). a ++ b) (first-back m (omega arith)) (back ∙ octave-is h some channel all m l)
-        ∙ sym (take-add (startOf h m) (startOf h m + hi h) channel)
+        ∙ sym (take-add (placesBefore h m) (placesBefore h m + hi h) channel)
         ∙ ap (λ (n : ℕ). take n channel) (start-next h m)
 
     pub each-back : eachOctave g h (eachOctave f h channel) ≡ channel
     each-back =
         ap (λ (m : ℕ). firstOctaves g h m (eachOctave f h channel)) (there h some channel all)
         ∙ first-back (octaves h) (omega arith)
-        ∙ take-all (startOf h (octaves h)) channel (omega (arith, start-all h some channel all))
+        ∙ take-all (placesBefore h (octaves h)) channel (omega (arith, start-all h some channel all))

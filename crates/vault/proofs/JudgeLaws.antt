@@ -5,10 +5,10 @@
 --     each-long, each-wise, each-undone     what then is put out
 -- Assumes nothing.
 use Prim.Native.Nat.{ℕ, _≤_}
-use mathlib.Core.Bool.{Bool, true, false, not, true≢false}
+use mathlib.Core.Bool.{Bool, true, false}
 use mathlib.Core.List.{List, []}
 use mathlib.Core.Path.{_≡_, refl, sym, ap, _∙_}
-use borrow.Author.Tests.{eqb-true, eqb-false, ne-eqb, ltb-true, ltb-false}
+use borrow.Author.Tests.{eqb-true, eqb-false, ne-eqb, ltb-true, ltb-false, not-false}
 use lib.Dec.{eqb, ltb}
 use lib.IntN.{ℤ}
 use lib.ListN.{length}
@@ -44,12 +44,8 @@ module _ (f : List ℤ → List ℤ) (h : VoiceHeader) (channel : List ℤ) wher
   pub given-is : (xs : List ℤ) → byOctave f h channel ≡ gives xs → eachOctave f h channel ≡ xs
   given-is xs e = let same : gives (eachOctave f h channel) ≡ gives xs = sym (by-gives (sym (given-none xs e))) ∙ e in cc
 
-not-not : (b : Bool) → not b ≡ false → b ≡ true
-not-not true e = refl
-not-not false e = absurd (true≢false e)
-
 pub none-suits : (h : VoiceHeader) (n : ℕ) → firstHolding (channelRules h n) ≡ 0 → lengthsSuit h false n 0 ≡ true
-none-suits h n none = not-not (lengthsSuit h false n 0) (none-holds (channelRules h n) (numbered-by (channelRules h n) tt) none .1 .0)
+none-suits h n none = not-false (lengthsSuit h false n 0) (none-holds (channelRules h n) (numbered-by (channelRules h n) tt) none .1 .0)
 
 -- ---- what is put out, by whether hi = 0
 

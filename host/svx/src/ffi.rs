@@ -4,7 +4,7 @@
 //! reads and writes within it. Rust's borrows keep lent buffers apart. An empty slice may have any pointer. A returned
 //! `bool` is 0 or 1.
 use crate::c::*;
-use crate::Refusal;
+use crate::{Refusal, VoiceHeader};
 
 /// What a call that gives a length answers: the length, or the refusal. A length that passes this machine's addresses
 /// is that of a buffer that can't be lent, so it is refused as a short buffer is.
@@ -233,24 +233,20 @@ pub fn fibonacci_encode_channel(samples: &[i8], out: &mut [u8]) -> Result<usize,
     answer(refusal, length)
 }
 
-/// A channel in difference order, octave by octave as the header's lengths and octave count say; how many values there
-/// are.
-pub fn difference_order(
-    one_shot: u32,
-    repeat: u32,
-    octaves: u8,
-    samples: &[i8],
-    out: &mut [i8],
-) -> Result<usize, Refusal> {
+/// Both ways of difference order have one shape in C.
+type Difference = unsafe extern "C" fn(u32, u32, u8, *const i8, usize, *mut i8, usize, *mut u64) -> u32;
+
+/// A channel one way or the other, octave by octave as the header says; how many bytes came out.
+fn difference(way: Difference, header: &VoiceHeader, channel: &[i8], out: &mut [i8]) -> Result<usize, Refusal> {
     let mut length = 0;
     // SAFETY: as the module says.
     let refusal = unsafe {
-        svx_difference_order(
-            one_shot,
-            repeat,
-            octaves,
-            samples.as_ptr(),
-            samples.len(),
+        way(
+            header.one_shot_hi_samples,
+            header.repeat_hi_samples,
+            header.ct_octave,
+            channel.as_ptr(),
+            channel.len(),
             out.as_mut_ptr(),
             out.len(),
             &mut length,
@@ -259,29 +255,14 @@ pub fn difference_order(
     answer(refusal, length)
 }
 
+/// A channel in difference order; how many values there are.
+pub fn difference_order(header: &VoiceHeader, samples: &[i8], out: &mut [i8]) -> Result<usize, Refusal> {
+    difference(svx_difference_order, header, samples, out)
+}
+
 /// The channel that these values are the difference order of; how many samples there are.
-pub fn difference_restore(
-    one_shot: u32,
-    repeat: u32,
-    octaves: u8,
-    values: &[i8],
-    out: &mut [i8],
-) -> Result<usize, Refusal> {
-    let mut length = 0;
-    // SAFETY: as the module says.
-    let refusal = unsafe {
-        svx_difference_restore(
-            one_shot,
-            repeat,
-            octaves,
-            values.as_ptr(),
-            values.len(),
-            out.as_mut_ptr(),
-            out.len(),
-            &mut length,
-        )
-    };
-    answer(refusal, length)
+pub fn difference_restore(header: &VoiceHeader, values: &[i8], out: &mut [i8]) -> Result<usize, Refusal> {
+    difference(svx_difference_restore, header, values, out)
 }
 
 /// The record at a place of a sheet: its kind, the place of its body, and the place past it. None at the end, and where

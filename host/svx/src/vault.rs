@@ -29,9 +29,8 @@ use crate::{Refusal, VoiceHeader};
 /// # }
 /// ```
 pub fn difference_order(header: &VoiceHeader, samples: &[i8]) -> Result<Vec<i8>, Refusal> {
-    let (one_shot, repeat) = (header.one_shot_hi_samples, header.repeat_hi_samples);
     let mut values = vec![0; samples.len()];
-    ffi::difference_order(one_shot, repeat, header.ct_octave, samples, &mut values)?;
+    ffi::difference_order(header, samples, &mut values)?;
     Ok(values)
 }
 
@@ -44,8 +43,7 @@ pub fn difference_order(header: &VoiceHeader, samples: &[i8]) -> Result<Vec<i8>,
 /// assert_eq!(svx::difference_restore(&header, &[5, 1, -1, 2]), Ok(vec![5, 4, 5, 7]));
 /// ```
 pub fn difference_restore(header: &VoiceHeader, values: &[i8]) -> Result<Vec<i8>, Refusal> {
-    let (one_shot, repeat) = (header.one_shot_hi_samples, header.repeat_hi_samples);
     let mut samples = vec![0; values.len()];
-    ffi::difference_restore(one_shot, repeat, header.ct_octave, values, &mut samples)?;
+    ffi::difference_restore(header, values, &mut samples)?;
     Ok(samples)
 }
