@@ -10,14 +10,14 @@ use header::{Compression, KnownCompression, Total, VoiceHeader};
 use samples::left_half;
 
 // How many samples the left and the right side have.
-#[derive(Drop)]
+#[derive(Clone, Copy)]
 pub enum SideLengths {
     Lengths(usize, usize),
     Refused(u8),
 }
 
 // How many samples a channel has.
-#[derive(Drop)]
+#[derive(Clone, Copy)]
 pub(crate) enum Count {
     Samples(usize),
     Refused(u8),

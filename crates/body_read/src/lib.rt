@@ -1,4 +1,6 @@
 // The sides of a voice: how many samples BODY gives to each, those samples, and which lengths suit a header.
+#![tactic(auto)]
+
 mod decode;
 mod lengths;
 

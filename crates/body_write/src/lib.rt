@@ -1,4 +1,6 @@
 // BODY written: how long it is, and its bytes as a chunk.
+#![tactic(auto)]
+
 ghost use Rattle.std.specs.Prelude.{◌≡◌, ◌+◌, ◌^◌, ◌≤◌, ◌<◌, length};
 ghost use Rattle.laws.specs.Put.{Put};
 ghost use Rattle.chunk.specs.ChunkBytes.{chunk_bytes};

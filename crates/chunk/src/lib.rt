@@ -1,4 +1,6 @@
 // The chunk walk of a FORM: where it ends, and what stands at a place of it; and chunks written.
+#![tactic(auto)]
+
 mod write;
 
 ghost use Rattle.std.specs.Prelude.{◌≡◌, ◌^◌, ◌<◌, length, take};
@@ -9,7 +11,7 @@ use field::read32;
 pub use write::{put_chunk, put_head, put_pad};
 
 // What stands at a place of the walk.
-#[derive(Drop)]
+#[derive(Clone, Copy)]
 pub enum ChunkStep {
     // A whole chunk: its name, the place and the size of its payload, and the place past that and the pad byte.
     Chunk(u32, usize, usize, usize),

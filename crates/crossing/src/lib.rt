@@ -1,9 +1,11 @@
 // The nearest place where the sign of samples changes: the quiet spot beside the one that was pointed at.
+#![tactic(auto)]
+
 ghost use Rattle.std.specs.Prelude.{◌≡◌, ◌+◌, ◌-◌, ◌≤◌, ◌<◌, min, length};
 ghost use Rattle.crossing.specs.Crossing.{is_below, unlike, nearest_crossing};
 ghost use Rattle.crossing.specs.Helpers.{Searched};
 
-#[derive(Drop)]
+#[derive(Clone, Copy)]
 pub enum Crossing {
     // The place of the first sample with the new sign.
     Found(usize),

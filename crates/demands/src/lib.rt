@@ -1,1 +1,2 @@
 // The demands, as theorems about what the contracts cite: no code.
+#![tactic(auto)]

@@ -10,7 +10,7 @@ use header::{Total, VoiceHeader};
 use voice_read::Lengths;
 
 // Header and channels, and the fifth draw, from which the samples are drawn.
-#[derive(Drop)]
+#[derive(Clone, Copy)]
 pub(crate) struct Plan {
     pub(crate) header: VoiceHeader,
     pub(crate) stereo: bool,

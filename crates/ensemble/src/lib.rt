@@ -1,4 +1,6 @@
 // The mixer: a score of up to 16 timed notes on one voice, block by block.
+#![tactic(auto)]
+
 ghost use Rattle.std.specs.Prelude.{◌≡◌, List, ◌≤◌, ◌<◌, ◌^◌, length};
 ghost use Rattle.sheet.specs.Judge.{judged};
 ghost use Rattle.sheet.specs.Read.{read_sheet};
@@ -17,7 +19,7 @@ use sheet_layout::layout_of;
 use voice::{Judged, judge_sheet};
 
 // The place after a block, or why there is none.
-#[derive(Drop)]
+#[derive(Clone, Copy)]
 pub enum Mixed {
     Place(u32),
     Refused(u8),

@@ -1,5 +1,7 @@
 // The next block of a mix that no rule turns back. It is made stretch by stretch: within one no entry starts and none is released, so each
 // entry that sounds is played as a block of its note, and added to the sums of all of them. They are held to 16 bits once, at the end.
+#![tactic(auto)]
+
 mod entry;
 mod stretch;
 

@@ -1,4 +1,6 @@
 // A score: timed notes, lent as a slice of entries. What takes the slice is few and thin; all else has the entries as numbers.
+#![tactic(auto)]
+
 ghost use Rattle.std.specs.Prelude.{◌≡◌, List, ◌+◌, ◌≤◌, ◌<◌, length, get_or};
 ghost use Rattle.ensemble_score.specs.Score.{blank, entry_in, EntryPut, FourFrom, FourPut, TakenFrom};
 ghost use Rattle.ensemble_score.specs.declared.Entry.{Entry};
@@ -6,7 +8,7 @@ ghost use Rattle.ensemble_score.specs.declared.Entry.{Entry};
 // A timed note: the mixed frames at which it starts and at which its key comes up; its step, octave and velocity. The order of the fields is
 // that of the C interface.
 #[repr(C)]
-#[derive(Drop)]
+#[derive(Clone, Copy)]
 pub struct Entry {
     pub start: u32,
     pub key_up: u32,
@@ -16,7 +18,7 @@ pub struct Entry {
 }
 
 // Four entries in a row.
-#[derive(Drop)]
+#[derive(Clone, Copy)]
 struct Four {
     first: Entry,
     second: Entry,
@@ -26,7 +28,7 @@ struct Four {
 
 // A score taken over from a slice: its length, and five numbers for each of its first sixteen entries (start, key-up, step, octave, velocity).
 // What stands past its end doesn't matter. Numbers can be lent to covered code; an array of structs would be copied for each look at it.
-#[derive(Drop)]
+#[derive(Clone, Copy)]
 pub struct Score {
     pub count: usize,
     pub numbers: [u32; 80],

@@ -1,4 +1,6 @@
 // Sums of 16-bit values, in 32 bits, held to 16 bits again once all is added.
+#![tactic(auto)]
+
 ghost use Rattle.std.specs.Prelude.{◌≡◌, map, ℕ, ◌+◌, ◌≤◌, ◌^◌, pos, length, replicate};
 ghost use Rattle.ensemble_sums.specs.Sums.{held_to16, added_to, Within};
 

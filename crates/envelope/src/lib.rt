@@ -1,4 +1,6 @@
 // The level of an envelope at a time, and how long an envelope takes; and quotients that cut toward zero, as its levels are made of.
+#![tactic(auto)]
+
 mod level;
 
 ghost use Rattle.std.specs.Prelude.{◌≡◌, ◌-◌, ◌^◌, min};

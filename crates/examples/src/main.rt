@@ -1,4 +1,6 @@
 // Runs worked examples of the format's specification and prints what they give.
+#![tactic(auto)]
+
 mod codec;
 mod crossings;
 mod headers;

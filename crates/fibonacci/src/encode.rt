@@ -9,7 +9,7 @@ use crate::pick::{NEAREST, fib_pick_nibble};
 use refusal::Output;
 
 // Two nibbles in a byte, and the sample that the decoder has after them.
-#[derive(Drop)]
+#[derive(Clone, Copy)]
 struct PackedPair {
     byte: u8,
     last: i8,

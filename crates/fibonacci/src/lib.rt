@@ -1,4 +1,6 @@
 // Fibonacci-delta coding of a channel of samples: two nibbles to a byte, each a step from the sample before.
+#![tactic(auto)]
+
 mod decode;
 mod encode;
 mod pick;

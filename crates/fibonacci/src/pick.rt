@@ -13,14 +13,14 @@ pub(crate) const NEAREST: [u8; 110] =
     *b"AAAAAABBBBBBBBBBCCCCCCCDDDDEEFFGHIJKLLMMNNNNOOOOOOOPPPPAAAAAANNNNNNNNNNVVVVVVV[[[[^^``abcdeffhhkkkkpppppppxxxx";
 
 // A nibble and its delta.
-#[derive(Drop)]
+#[derive(Clone, Copy)]
 struct NearestStep {
     nibble: u8,
     delta: i8,
 }
 
 // A nibble, and the sample that the decoder has after it.
-#[derive(Drop)]
+#[derive(Clone, Copy)]
 pub(crate) struct Picked {
     pub(crate) nibble: u8,
     pub(crate) sample: i8,

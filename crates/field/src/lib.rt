@@ -3,6 +3,8 @@
 //
 // The functions that read at a place ask that the field lies within the slice: the crates above have judged lengths by
 // then. Those that store pass over what does not fit, so a writer that is run over an empty slice measures.
+#![tactic(auto)]
+
 mod little;
 mod number;
 mod signed;

@@ -1,4 +1,6 @@
 // The chunks of a FORM 8SVX: their names, the first bad one, and where the first of a name lies.
+#![tactic(auto)]
+
 mod judge;
 mod names;
 mod place;

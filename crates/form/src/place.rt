@@ -5,7 +5,7 @@ ghost use Rattle.form.specs.Find.{first_place};
 use chunk::{ChunkStep, chunk_at};
 
 // Where a payload lies: its start and its length.
-#[derive(Drop)]
+#[derive(Clone, Copy)]
 pub enum Place {
     At(usize, usize),
     Absent,

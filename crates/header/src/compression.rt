@@ -2,7 +2,7 @@
 ghost use Rattle.std.specs.Prelude.{◌≡◌};
 ghost use Rattle.header.specs.Compression.{known_compression};
 
-#[derive(Drop)]
+#[derive(Clone, Copy)]
 pub enum Compression {
     // Each byte is a sample.
     None,
@@ -10,7 +10,7 @@ pub enum Compression {
     Fibonacci,
 }
 
-#[derive(Drop)]
+#[derive(Clone, Copy)]
 pub enum KnownCompression {
     Known(Compression),
     Refused(u8),

@@ -1,4 +1,6 @@
 // The voice header, VHDR: its fields, and what it says of the octaves, of the volume and of BODY's compression.
+#![tactic(auto)]
+
 mod compression;
 mod voice_header;
 

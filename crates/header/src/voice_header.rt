@@ -8,7 +8,7 @@ ghost use Rattle.header_volume.specs.Volume.{volume_float};
 
 use crate::compression::{KnownCompression, known_compression};
 
-#[derive(Drop)]
+#[derive(Clone, Copy)]
 pub struct VoiceHeader {
     // Samples of the highest octave that are played once.
     pub one_shot_hi_samples: u32,
@@ -26,28 +26,28 @@ pub struct VoiceHeader {
     pub volume: u32,
 }
 
-#[derive(Drop)]
+#[derive(Clone, Copy)]
 pub enum ParsedHeader {
     Parsed(VoiceHeader),
     Refused(u8),
 }
 
 // A number of samples, or that there is no such octave.
-#[derive(Drop)]
+#[derive(Clone, Copy)]
 pub enum SampleCount {
     Samples(u64),
     Absent,
 }
 
 // The samples of all octaves together, or that they are too many.
-#[derive(Drop)]
+#[derive(Clone, Copy)]
 pub enum Total {
     Sum(u64),
     Refused(u8),
 }
 
 // A frequency in Hz, or that the header doesn't tell.
-#[derive(Drop)]
+#[derive(Clone, Copy)]
 pub enum Frequency {
     Known(f64),
     Unknown,

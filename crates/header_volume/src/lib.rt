@@ -1,5 +1,7 @@
 // A volume as a float: rounded to 24 binary digits in integers, nearest, ties to even, cast with no loss, and divided
 // once, exactly.
+#![tactic(auto)]
+
 ghost use Rattle.std.specs.Prelude.{◌≡◌};
 ghost use Rattle.header_volume.specs.Volume.{lowest_digit, kept_digits, volume_float};
 

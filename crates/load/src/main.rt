@@ -1,6 +1,8 @@
 // The load: the voices of the numbers 1 to 1,000, each drawn, written, read from its file and held against what was drawn, and then every
 // octave of it played for 4,096 frames. It prints how much that is, and a sum over all files and one over all frames, which are the same on
 // every machine: those that the plain versions of `tools/compare` come to.
+#![tactic(auto)]
+
 mod play;
 mod same;
 mod sums;

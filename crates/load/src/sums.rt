@@ -3,7 +3,7 @@ use field::bits_of_i32;
 
 // Voices that were read as they were drawn; the bytes of files and a sum over them; notes, the frames of them that aren't over, and a sum
 // over the values of all frames. A sum begins with 0, and with each element becomes 31 times itself and the element.
-#[derive(Drop)]
+#[derive(Clone, Copy)]
 pub struct Sums {
     pub voices: u64,
     pub bytes: u64,

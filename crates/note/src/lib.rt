@@ -1,4 +1,6 @@
 // A note on a voice: started, filled block by block, and released. Each call takes the note and gives the note after it.
+#![tactic(auto)]
+
 ghost use Rattle.std.specs.Prelude.{◌≡◌, length};
 ghost use Rattle.sheet.specs.Judge.{judged};
 ghost use Rattle.sheet.specs.Read.{read_sheet};
@@ -13,21 +15,21 @@ use sheet::{Judged, judge_sheet};
 use sheet_layout::layout_of;
 
 // A note: how it plays (octave, velocity, step, output rate, held or released), and the frames filled.
-#[derive(Drop)]
+#[derive(Clone, Copy)]
 pub struct Note {
     pub playing: Playing,
     pub frames: u32,
 }
 
 // How many frames of a block weren't over, or why there is none.
-#[derive(Drop)]
+#[derive(Clone, Copy)]
 pub enum Answer {
     Sounding(usize),
     Refused(u8),
 }
 
 // The note after a fill, and its answer.
-#[derive(Drop)]
+#[derive(Clone, Copy)]
 pub struct Filled {
     pub note: Note,
     pub answer: Answer,

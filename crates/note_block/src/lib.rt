@@ -1,4 +1,6 @@
 // The next block of a note that no rule turns back. What the sheet says is taken out once; the block's loop looks at nothing but that.
+#![tactic(auto)]
+
 mod silence;
 mod stages;
 

@@ -1,4 +1,6 @@
 // A list of calls on a note, made one after another: the accepted blocks joined in one buffer, and the answers in another.
+#![tactic(auto)]
+
 ghost use Rattle.std.specs.Prelude.{◌≡◌, true, ◌+◌, ◌≤◌, pos, length, replicate, [], ◌∷◌, map};
 ghost use Rattle.std.proofs.lemmas.List.Edits.{sets};
 ghost use Rattle.laws.specs.Put.{Put};
@@ -14,7 +16,7 @@ pub const KEY_UP: u64 = 18446744073709551615;
 // What is added to a refusal's number among the answers.
 pub const REFUSED: u64 = 9223372036854775808;
 
-#[derive(Drop)]
+#[derive(Clone, Copy)]
 pub enum Made {
     // The note after the calls, how many values were put out, and how many answers.
     Calls(Note, usize, usize),
@@ -22,7 +24,7 @@ pub enum Made {
 }
 
 // The note after some of the calls, and how many values and answers they put out.
-#[derive(Drop)]
+#[derive(Clone, Copy)]
 struct Run {
     note: Note,
     at: usize,

@@ -1,10 +1,12 @@
 // The milliseconds of a frame by a clock that is carried from frame to frame: it divides by the rate where it begins, and then only adds.
+#![tactic(auto)]
+
 ghost use Rattle.std.specs.Prelude.{◌<◌, ◌^◌};
 ghost use Rattle.note_clock.specs.Clock.{Shows, Runs, Ticked};
 
 // `ms` and `rem` are the quotient and the remainder, by the rate, of 1,000 times the frames that have passed; `whole` and `part` are
 // those of 1,000, which each frame adds.
-#[derive(Drop)]
+#[derive(Clone, Copy)]
 pub struct Clock {
     pub rate: usize,
     pub whole: usize,

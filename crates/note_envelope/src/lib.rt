@@ -1,4 +1,6 @@
 // The joined points of a sheet's attacks or releases, followed by a cursor that only moves on: over a block each point is read once.
+#![tactic(auto)]
+
 ghost use Rattle.std.specs.Prelude.{◌<◌, ◌^◌};
 ghost use Rattle.sheet_layout.specs.Members.{Whole};
 ghost use Rattle.note_envelope.specs.Cursor.{Ready, Moved, Stood, Follows};
@@ -12,7 +14,7 @@ const NEVER: usize = 18446744073709551615;
 
 // The point in hand lies at `at`, and begins `before` milliseconds from the start at `level`. `now` is the level, held within 0..65,536,
 // and `ended` says that no point is left; both are so from the time that was asked for up to `until`.
-#[derive(Drop)]
+#[derive(Clone, Copy)]
 pub struct EnvelopeCursor {
     pub at: usize,
     pub before: usize,

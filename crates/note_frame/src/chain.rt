@@ -11,7 +11,7 @@ use envelope::scaled;
 
 // What doesn't change from frame to frame: the volume and the sides' shares, at most 65,536 each; the velocity, at most 127; that each side
 // has its own samples; and the fade, from step `fade_start` to the path's length.
-#[derive(Drop)]
+#[derive(Clone, Copy)]
 pub struct Gains {
     pub volume: u32,
     pub velocity: u32,
@@ -24,7 +24,7 @@ pub struct Gains {
 }
 
 // A value for each side, and whether the frame isn't over.
-#[derive(Drop)]
+#[derive(Clone, Copy)]
 pub struct Frame {
     pub left: i16,
     pub right: i16,

@@ -1,4 +1,6 @@
 // One frame of a note: how the note plays, what of a voice doesn't change from frame to frame, and the value chain.
+#![tactic(auto)]
+
 mod chain;
 mod fade;
 mod gains;

@@ -1,7 +1,7 @@
 // How a note plays.
 
 // Held, or released at a frame.
-#[derive(Drop)]
+#[derive(Clone, Copy)]
 pub enum Key {
     Held,
     Released(u32),
@@ -9,7 +9,7 @@ pub enum Key {
 
 // The octave, the velocity (1 to 127, how hard the key was struck), the step (65,536 is one sample a frame), the output rate, and the key. What
 // a frame is depends on these and the voice alone.
-#[derive(Drop)]
+#[derive(Clone, Copy)]
 pub struct Playing {
     pub octave: u8,
     pub velocity: u8,

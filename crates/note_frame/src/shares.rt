@@ -7,7 +7,7 @@ use sheet_layout::{MaybeChannel, MaybePan};
 use small_chunks::{ChannelAssignment, held_to_unity};
 
 // How much of a value each side gets: 65,536 is all of it.
-#[derive(Drop)]
+#[derive(Clone, Copy)]
 pub(crate) struct Shares {
     pub left: u32,
     pub right: u32,

@@ -1,5 +1,7 @@
 // The path of a note: which sample sounds at each step. A cursor knows the run in hand, a stretch of the path whose samples lie side
 // by side, so that within a run a step costs one subtraction.
+#![tactic(auto)]
+
 mod run;
 mod sequence;
 

@@ -10,7 +10,7 @@ use small_chunks::read_segment;
 
 // The octave's samples begin at `first`; `one_shot` and `repeat` are the lengths of its parts, and a segment's offsets are times
 // `scale`. Each side has so many samples.
-#[derive(Drop)]
+#[derive(Clone, Copy)]
 pub struct Path {
     pub first: usize,
     pub scale: usize,
@@ -21,7 +21,7 @@ pub struct Path {
 }
 
 // Steps `from` up to `until` lie side by side from the place `start` on. The segment after them lies at `at` or past it.
-#[derive(Drop)]
+#[derive(Clone, Copy)]
 pub struct Run {
     pub at: usize,
     pub from: usize,

@@ -1,4 +1,6 @@
 // What turns a fill back: 10, 13, 18, 21 to 25, 31 to 34 and 44, for a sheet that was judged sound.
+#![tactic(auto)]
+
 mod note_rule;
 mod octave;
 mod sequence;

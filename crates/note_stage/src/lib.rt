@@ -1,5 +1,7 @@
 // A block of frames. Nothing is looked up in the sheet for a frame, and nothing divided by the rate: a clock, and cursors on the envelope
 // and on the path, are carried along.
+#![tactic(auto)]
+
 mod playhead;
 mod run;
 mod step;
@@ -15,7 +17,7 @@ use note_path::{Path, Run, run_start, run_to};
 
 // The stage of the envelope that a block lies in, the attack or the release: the note's step and rate, the frame that the stage counts
 // from, the level there, and whether the note is over where the points end.
-#[derive(Drop)]
+#[derive(Clone, Copy)]
 pub struct Stage {
     pub step: usize,
     pub rate: usize,

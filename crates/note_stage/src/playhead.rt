@@ -6,7 +6,7 @@ use crate::Stage;
 use note_clock::{Clock, clock_at, tick};
 
 // The next frame of the note, its place on the path in 65,536ths of a step, and its milliseconds in the stage.
-#[derive(Drop)]
+#[derive(Clone, Copy)]
 pub(crate) struct Playhead {
     pub frame: usize,
     pub place: usize,

@@ -1,6 +1,8 @@
 // Parts of a voice's samples, handed back as parts of the caller's own slices: a side, an octave of a side, and the one-shot and the
 // repeat part of an octave. Beside each stands the query that says where the part lies, or that there is none: an empty part and
 // no part give the same slice.
+#![tactic(auto)]
+
 mod octave_parts;
 mod part;
 mod side;

@@ -3,7 +3,7 @@ ghost use Rattle.std.specs.Prelude.{◌≡◌, length};
 ghost use Rattle.octaves.specs.Part.{part_of, part_at};
 ghost use Rattle.octaves.specs.ForCode.{LiesWithin};
 
-#[derive(Drop)]
+#[derive(Clone, Copy)]
 pub enum Part {
     // Its start and its length.
     At(usize, usize),

@@ -11,7 +11,7 @@ use header::Total;
 use sheet::{Judged, judge_sheet};
 use sheet_layout::{sheet_header, sheet_stereo};
 
-#[derive(Drop)]
+#[derive(Clone, Copy)]
 pub enum Side {
     Left,
     Right,

@@ -1,4 +1,6 @@
 // Puts channels in difference order and restores them, and prints what comes out.
+#![tactic(auto)]
+
 use print::{first_samples, number, refused, samples, say};
 use voice::{Output, VoiceHeader, difference_order, difference_restore};
 

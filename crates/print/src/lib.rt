@@ -1,4 +1,6 @@
 // What the programs print, on standard output.
+#![tactic(auto)]
+
 use libc::STDOUT_FILENO;
 
 pub fn say(text: &[u8]) {

@@ -1,4 +1,5 @@
 // Refusals by their numbers, and the answer of an entry that fills one lent buffer.
+#![tactic(auto)]
 
 // refusals.txt { written by tools/refusals.sh
 
@@ -113,7 +114,7 @@ pub const ZERO_NUMBER: u8 = 48;
 // } refusals.txt
 
 // How much of a lent buffer was written, or why nothing was.
-#[derive(Drop)]
+#[derive(Clone, Copy)]
 pub enum Output {
     Length(usize),
     Refused(u8),

@@ -2,6 +2,8 @@
 // were written by tools/compare, which took the answers from the original Rust module: `compare list crates/replay`. The lines that begin
 // with `tie` or `wrap` are its own: where two nibbles lead as near, or a sum leaves a sample's range, the library doesn't do as the original
 // does.
+#![tactic(auto)]
+
 mod input;
 mod read_case;
 mod write_case;

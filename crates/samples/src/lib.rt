@@ -1,4 +1,6 @@
 // Samples: raw bytes as samples and back, the two channels of a BODY, and the loudest sample.
+#![tactic(auto)]
+
 mod halves;
 mod loudness;
 mod raw;

@@ -2,7 +2,7 @@
 ghost use Rattle.std.specs.Prelude.{◌≡◌, ◌≤◌, ◌<◌, max, nat_abs, length};
 ghost use Rattle.samples.specs.Peak.{magnitude_at, loudest, first_with, peak_of};
 
-#[derive(Drop)]
+#[derive(Clone, Copy)]
 pub enum Loudest {
     // There are no samples.
     Empty,
@@ -15,7 +15,7 @@ pub enum Loudest {
 const BLOCK: usize = 128;
 
 // The first of the loudest blocks: how loud it is, and where it begins.
-#[derive(Drop)]
+#[derive(Clone, Copy)]
 struct LoudestBlock {
     magnitude: u8,
     start: usize,

@@ -8,7 +8,7 @@ use crate::record::{RecordStep, record_at};
 use small_chunks::is_channel;
 use text_utf8::{Lead, between, feed, is_between};
 
-#[derive(Drop)]
+#[derive(Clone, Copy)]
 pub enum Judged {
     // The flat form of a voice.
     Sound,
@@ -75,7 +75,7 @@ fn first_byte(body: &[u8]) -> u8
 }
 
 // How far the texts are judged: what has to follow in the text in hand, and that an earlier one is ill-formed.
-#[derive(Drop)]
+#[derive(Clone, Copy)]
 struct TextState {
     lead: Lead,
     ill: bool,

@@ -1,4 +1,6 @@
 // The sheet: a voice in flat form, as records of one byte of kind and a body whose length the kind fixes.
+#![tactic(auto)]
+
 mod judge;
 mod record;
 mod write;

@@ -3,7 +3,7 @@ ghost use Rattle.std.specs.Prelude.{◌≡◌};
 ghost use Rattle.sheet.specs.Record.{record_at};
 
 // What stands at a place of a sheet.
-#[derive(Drop)]
+#[derive(Clone, Copy)]
 pub enum RecordStep {
     // A record: its kind, the place of its body and the place past it.
     Record(u8, usize, usize),

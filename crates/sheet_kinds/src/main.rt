@@ -1,4 +1,6 @@
 // Walks three sheets record by record and prints each record's kind and its body's length, then how the walk ends.
+#![tactic(auto)]
+
 use print::{number, say};
 use voice::{RecordStep, read_step};
 

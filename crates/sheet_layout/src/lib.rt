@@ -1,5 +1,7 @@
 // Where the parts of a sound sheet lie, and what they are. A caller has judged the sheet; the walk here passes over envelopes and
 // segments alone, so texts cost nothing.
+#![tactic(auto)]
+
 mod members;
 
 ghost use Rattle.std.specs.Prelude.{◌≡◌, ◌+◌, ◌≤◌, drop};
@@ -16,7 +18,7 @@ pub use members::next_member;
 use small_chunks::{ChannelAssignment, Fade, Pan, ParsedChannel, read_fade, read_pan};
 
 // The place where each part begins: what may be missing then ends where it begins.
-#[derive(Drop)]
+#[derive(Clone, Copy)]
 pub struct Layout {
     pub channel: usize,
     pub pan: usize,
@@ -27,25 +29,25 @@ pub struct Layout {
     pub texts: usize,
 }
 
-#[derive(Drop)]
+#[derive(Clone, Copy)]
 pub enum MaybeChannel {
     Channel(ChannelAssignment),
     NoChannel,
 }
 
-#[derive(Drop)]
+#[derive(Clone, Copy)]
 pub enum MaybePan {
     Panned(Pan),
     NoPan,
 }
 
-#[derive(Drop)]
+#[derive(Clone, Copy)]
 pub enum MaybeFade {
     Fades(Fade),
     NoFade,
 }
 
-#[derive(Drop)]
+#[derive(Clone, Copy)]
 pub enum MaybeSequence {
     // The number of its segments.
     Segments(usize),

@@ -1,5 +1,7 @@
 // The sheet of a FORM: its chunks' contents as records, in the sheet's order. Each function stores at a place and answers the
 // place past its records; what does not fit is passed over, so over an empty slice they measure.
+#![tactic(auto)]
+
 mod part;
 mod text_chunk;
 

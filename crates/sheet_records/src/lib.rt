@@ -1,6 +1,8 @@
 // A reader that walks a sheet one record at a time, for code that only inspects: it judges neither order nor values.
 // It is a small struct that holds the sheet and a place. Functions over the struct are few and thin; `read_step` serves callers that
 // keep the place themselves.
+#![tactic(auto)]
+
 ghost use Rattle.std.specs.Prelude.{◌≡◌};
 ghost use Rattle.sheet.specs.Record.{record_at};
 ghost use Rattle.sheet_records.specs.Steps.{place_after, moved_by};
@@ -8,7 +10,7 @@ ghost use Rattle.sheet_records.specs.Steps.{place_after, moved_by};
 use sheet::{RecordStep, record_at};
 
 // A sheet and a place in it.
-#[derive(Drop)]
+#[derive(Clone, Copy)]
 pub struct SheetReader<'a> {
     pub sheet: &'a [u8],
     pub at: usize,

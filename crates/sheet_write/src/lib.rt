@@ -1,5 +1,7 @@
 // The chunks of a sheet, but for BODY, in its order. Each function stores at a place and answers the place past its bytes; what
 // does not fit is passed over, so over an empty slice they measure.
+#![tactic(auto)]
+
 mod group;
 
 ghost use Rattle.std.specs.Prelude.{◌≡◌, [], ◌∷◌, ◌+◌, ◌-◌, ◌^◌, ◌≤◌, ◌<◌, length, take, drop};

@@ -3,7 +3,7 @@ ghost use Rattle.std.specs.Prelude.{◌≡◌};
 ghost use Rattle.field.specs.BigEndian.{big_endian_bytes};
 ghost use Rattle.small_chunks.specs.Channel.{channel_of, is_channel, channel_value_of, channel_count, parsed_channel};
 
-#[derive(Drop)]
+#[derive(Clone, Copy)]
 pub enum ChannelAssignment {
     // 2: mono, on the left.
     Left,
@@ -13,7 +13,7 @@ pub enum ChannelAssignment {
     Stereo,
 }
 
-#[derive(Drop)]
+#[derive(Clone, Copy)]
 pub enum ParsedChannel {
     Parsed(ChannelAssignment),
     Refused(u8),

@@ -3,6 +3,8 @@
 //
 // A `read_..` asks that its field lies within the slice, for the crates above, which have judged lengths by then. A `parse`
 // asks nothing: it answers 6 where the chunk is too short, and ignores what lies past the field.
+#![tactic(auto)]
+
 mod channel;
 mod pan;
 mod points;

@@ -2,20 +2,20 @@
 ghost use Rattle.std.specs.Prelude.{◌≡◌, ◌+◌, ◌≤◌, length, drop};
 ghost use Rattle.small_chunks.specs.Pan.{pan_of, pan_bytes, parsed_pan, held_to_unity, pan_weights};
 
-#[derive(Drop)]
+#[derive(Clone, Copy)]
 pub struct Pan {
     // 0 is right, 65,536 is left.
     pub position: i32,
 }
 
-#[derive(Drop)]
+#[derive(Clone, Copy)]
 pub enum ParsedPan {
     Parsed(Pan),
     Refused(u8),
 }
 
 // How much of the voice each speaker gets: together 1.
-#[derive(Drop)]
+#[derive(Clone, Copy)]
 pub struct PanWeights {
     pub left: f32,
     pub right: f32,

@@ -2,7 +2,7 @@
 ghost use Rattle.std.specs.Prelude.{◌≡◌, ◌+◌, ◌≤◌, length, drop};
 ghost use Rattle.small_chunks.specs.Envelope.{point_of, point_bytes};
 
-#[derive(Drop)]
+#[derive(Clone, Copy)]
 pub struct EgPoint {
     pub duration_ms: u16,
     // The level at its end, 16.16: 65,536 is full.

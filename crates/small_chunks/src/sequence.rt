@@ -3,13 +3,13 @@ ghost use Rattle.std.specs.Prelude.{◌≡◌, ◌+◌, ◌≤◌, leb, ltb, len
 ghost use Rattle.small_chunks.specs.Sequence.{segment_of, segment_bytes, segment_length, segment_verdict, fade_of, fade_bytes, parsed_fade};
 
 // A range of samples of the highest octave.
-#[derive(Drop)]
+#[derive(Clone, Copy)]
 pub struct SeqnSegment {
     pub start: u32,
     pub end: u32,
 }
 
-#[derive(Drop)]
+#[derive(Clone, Copy)]
 pub enum Validity {
     Valid,
     Refused(u8),
@@ -75,12 +75,12 @@ impl SeqnSegment {
 }
 
 // The segment at which the sound begins to fade, counted from 0.
-#[derive(Drop)]
+#[derive(Clone, Copy)]
 pub struct Fade {
     pub segment: u32,
 }
 
-#[derive(Drop)]
+#[derive(Clone, Copy)]
 pub enum ParsedFade {
     Parsed(Fade),
     Refused(u8),

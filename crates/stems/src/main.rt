@@ -5,6 +5,8 @@
 //
 // The file `stdin` beside src/ is a looped voice of two octaves, with a pan, an attack of 80 milliseconds and a release of 100, so that
 // at 8,000 frames a second the note is over 800 frames after the key-up.
+#![tactic(auto)]
+
 mod chord;
 mod compare;
 mod report;

@@ -13,14 +13,14 @@ use voice::{Crossing, Frequency, Loudest, Pan, VoiceHeader, nearest_crossing, pe
 
 // Where it isn't known, hertz is 0.
 #[repr(C)]
-#[derive(Drop)]
+#[derive(Clone, Copy)]
 pub struct SvxFrequency {
     pub known: bool,
     pub hertz: f64,
 }
 
 #[repr(C)]
-#[derive(Drop)]
+#[derive(Clone, Copy)]
 pub struct SvxPan {
     pub left: f32,
     pub right: f32,
@@ -28,7 +28,7 @@ pub struct SvxPan {
 
 // Where there is no sample, the rest is 0.
 #[repr(C)]
-#[derive(Drop)]
+#[derive(Clone, Copy)]
 pub struct SvxPeak {
     pub found: bool,
     pub magnitude: u8,

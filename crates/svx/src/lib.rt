@@ -1,5 +1,7 @@
 // The C interface. Each function hands its arguments to one entry of the library and its answer back: 0, or the refusal's number,
 // with lengths written where the call was accepted and left alone where it was refused.
+#![tactic(auto)]
+
 mod codec;
 mod differences;
 mod drawing;

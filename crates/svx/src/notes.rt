@@ -8,7 +8,7 @@ use voice::{Answer, Key, Note, Playing};
 
 // key_up is 0 while the note is held: of a note that is handed in held it is ignored, and it comes back as 0.
 #[repr(C)]
-#[derive(Drop)]
+#[derive(Clone, Copy)]
 pub struct SvxNote {
     pub octave: u8,
     pub velocity: u8,
@@ -21,7 +21,7 @@ pub struct SvxNote {
 
 // The note after a fill, its refusal or 0, and how many frames of the block weren't over; 0 where refused.
 #[repr(C)]
-#[derive(Drop)]
+#[derive(Clone, Copy)]
 pub struct SvxFilled {
     pub refusal: u32,
     pub sounding: u64,

@@ -10,7 +10,7 @@ use voice::{Part, SampleCount, Side, VoiceHeader, repeat_part, side_part};
 
 // Where it isn't there, the rest is 0.
 #[repr(C)]
-#[derive(Drop)]
+#[derive(Clone, Copy)]
 pub struct SvxPart {
     pub there: bool,
     pub start: u64,

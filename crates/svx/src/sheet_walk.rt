@@ -9,7 +9,7 @@ use voice::{Judged, RecordStep, judge_sheet, record_at};
 
 // step: 0 a record, 1 the end, 2 refused by 15, 3 refused by 16. The rest is 0 unless step is 0.
 #[repr(C)]
-#[derive(Drop)]
+#[derive(Clone, Copy)]
 pub struct SvxRecord {
     pub step: u8,
     pub kind: u8,

@@ -3,6 +3,8 @@
 //
 // Nothing is copied on the way. White subsequences can be trimmed before the replacement as well as after it, so the part of the
 // payload that is kept is found first; one pass over that part measures the text, another writes it.
+#![tactic(auto)]
+
 mod length;
 mod part;
 mod white_space;

@@ -8,7 +8,7 @@ use crate::table::{Lead, lead_of};
 
 // What begins at a place: a well-formed sequence of one scalar value, a maximal subpart of an ill-formed one, or nothing.
 // `next` is the place past it.
-#[derive(Drop)]
+#[derive(Clone, Copy)]
 pub enum Utf8Step {
     Scalar { next: usize },
     IllFormed { next: usize },

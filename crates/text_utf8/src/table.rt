@@ -5,7 +5,7 @@ ghost use Rattle.text_utf8.specs.Table.{following};
 
 // What has to follow: so many bytes, the first of them from a lowest to a highest value, the others from 80 to BF; or the
 // bytes are ill-formed whatever follows.
-#[derive(Drop)]
+#[derive(Clone, Copy)]
 pub enum Lead {
     Follow(usize, u8, u8),
     Never,

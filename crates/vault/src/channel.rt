@@ -13,7 +13,7 @@ use header::{Total, VoiceHeader};
 use refusal::Output;
 
 // Which way a channel goes.
-#[derive(Drop)]
+#[derive(Clone, Copy)]
 enum Direction {
     Order,
     Restore,

@@ -1,4 +1,6 @@
 // A channel in difference order, the form in which a vault stores it, and back.
+#![tactic(auto)]
+
 mod channel;
 mod octave;
 

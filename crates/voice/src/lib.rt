@@ -1,5 +1,6 @@
 // The door of the library: every entry that users call, with its types, and nothing else. None asks anything of its caller, and none
 // refuses by a number that demand 1 doesn't list for it. Each stands in the crate that it is handed on from.
+#![tactic(auto)]
 
 // Files: a voice read and written.
 pub use refusal::Output;

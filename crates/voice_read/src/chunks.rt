@@ -22,14 +22,14 @@ use header::{VoiceHeader, read_header};
 use sheet_read::{put_sheet, sheet_length};
 
 // How many bytes and samples a reading has.
-#[derive(Drop)]
+#[derive(Clone, Copy)]
 pub struct Lengths {
     pub sheet: usize,
     pub left: usize,
     pub right: usize,
 }
 
-#[derive(Drop)]
+#[derive(Clone, Copy)]
 pub enum Parsed {
     Voice(Lengths),
     Refused(u8),

@@ -1,4 +1,6 @@
 // A file read: its voice as a sheet, and the samples of both sides, into three lent buffers.
+#![tactic(auto)]
+
 mod chunks;
 mod parse;
 

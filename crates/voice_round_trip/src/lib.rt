@@ -1,1 +1,2 @@
 // What is written is read again: no code, the theorem stands in proofs/.
+#![tactic(auto)]

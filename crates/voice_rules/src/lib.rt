@@ -1,4 +1,6 @@
 // The voice's own rules, 10, 13 and 18, for a sheet that was judged sound.
+#![tactic(auto)]
+
 ghost use Rattle.std.specs.Prelude.{◌≡◌};
 ghost use Rattle.sheet.specs.Judge.{judged};
 ghost use Rattle.sheet.specs.Read.{read_sheet};

@@ -1,4 +1,6 @@
 // A file written, from a sheet and the samples of both sides.
+#![tactic(auto)]
+
 mod encode;
 mod measure;
 

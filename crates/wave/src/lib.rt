@@ -1,4 +1,6 @@
 // An octave of a voice as a RIFF WAVE file of 8-bit PCM, for samplers that know nothing else.
+#![tactic(auto)]
+
 mod front;
 mod measure;
 mod values;
