@@ -12,7 +12,7 @@ use Rattle.refusal.specs.Numbers.{chunk_past_form, chunk_twice, chunk_length, ch
 use Rattle.chunk.specs.Chunk.{items_from}
 use Rattle.chunk.specs.ForCode.{step_at}
 use Rattle.chunk.specs.declared.ChunkStep.{ChunkStep}
-use Rattle.chunk.specs.declared.ChunkStep.TheVariants as chunk-step
+use Rattle.chunk.specs.declared.ChunkStep.TheVariants as chunk_step
 use Rattle.chunk.proofs.ChunkLaws.{at_end, at_refused, at_chunk}
 use Rattle.form.specs.Kind.{kind_of, length_wrong}
 use Rattle.form.specs.FirstBad.{channel_wrong, chunk_wrong, or_else, bad_from}
@@ -20,7 +20,7 @@ use Rattle.form.proofs.FormLaws.{refused_number, came_then}
 use Rattle.sheet.specs.Record.{records, record_at}
 use Rattle.sheet.specs.Order.{misplaced, group_after, value_wrong, first_wrong}
 use Rattle.sheet.specs.declared.record.RecordStep.{RecordStep}
-use Rattle.sheet.specs.declared.record.RecordStep.TheVariants as record-step
+use Rattle.sheet.specs.declared.record.RecordStep.TheVariants as record_step
 use Rattle.sheet.proofs.RecordLaws.{is_end, is_refused, is_number, is_record}
 use Rattle.demands.specs.Demand1.{record_numbers}
 use Rattle.demands.proofs.NumberLaws.{one_of, by_test, along}

@@ -39,7 +39,7 @@ use Rattle.ensemble_score.specs.Score.{TakenFrom}
 use Rattle.ensemble_score.proofs.CallRule.{contract_of, gets, lent_val, Lent, Token}
 use Rattle.ensemble_score.specs.contracts.Score as S
 use Rattle.ensemble_score.proofs.Score.TheLaws as S'
-use Rattle.ensemble_score.specs.contracts.score_of as score-of
+use Rattle.ensemble_score.specs.contracts.score_of as score_of
 use Rattle.ensemble_score.proofs.score_of.Symbol.{name as #ensemble_score·score-of}
 
 module _ {M : Type 1} {𝓤 : Ura M} (𝓛 : Logic 𝓤) (T : Ended) (c : Clauses 𝓤 T) where

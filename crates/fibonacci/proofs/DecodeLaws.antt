@@ -23,7 +23,7 @@ nibbles_length (b ∷ bs) = omega (arith, nibbles_length bs)
 pub running_length : (s : ℤ) (ks : List ℕ) → length (running s ks) ≡ suc (length ks)
 unfolding running
 running_length s [] = refl
-running_length s (k ∷ ks) = ap suc (running_length _ ks)
+running_length s (k ∷ ks) = ap suc (running_length (fib_step s k) ks)
 
 -- the first, and two for each byte after the first two
 pub samples_length : (body : List ℕ) → length (fib_samples body) ≡ 2 * (length body - 2) + 1

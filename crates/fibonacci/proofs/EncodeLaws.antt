@@ -12,6 +12,7 @@ use lib.Seq.{drop-cons}
 use Rattle.laws.specs.Buffer.{written}
 use Rattle.laws.proofs.Prefix.{rest_past, prefix_next}
 use Rattle.field.specs.Signed.{byte_of}
+use Rattle.fibonacci.specs.Step.{fib_step}
 use Rattle.fibonacci.specs.Pick.{fib_pick}
 use Rattle.fibonacci.specs.Encode.{picks, packed, fib_bytes}
 use Rattle.fibonacci.specs.Helpers.{packed_pair}
@@ -21,7 +22,7 @@ use Rattle.fibonacci.specs.Helpers.{packed_pair}
 pub picks_length : (s : ℤ) (xs : List ℤ) → length (picks s xs) ≡ length xs
 unfolding picks
 picks_length s [] = refl
-picks_length s (x ∷ xs) = ap suc (picks_length _ xs)
+picks_length s (x ∷ xs) = ap suc (picks_length (fib_step s (fib_pick s x)) xs)
 
 pub packed_length : (ks : List ℕ) → length (packed ks) ≡ (length ks + 1) / 2
 unfolding packed

@@ -1,8 +1,10 @@
 // The list on standard input: a byte says what a case is, and a slice has its length before it in four bytes, big-endian.
 ghost use Rattle.std.specs.Prelude.{◌≤◌, ◌<◌, length};
 
-use libc::STDIN_FILENO;
 use voice::{Output, decode_raw};
+
+// Standard input's descriptor.
+const STDIN_FILENO: i32 = 0;
 
 // The next byte; 0 at the end.
 pub fn byte() -> u8 {

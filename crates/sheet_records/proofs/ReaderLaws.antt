@@ -32,7 +32,7 @@ use denote.Triple.Spec.{triple_of}
 use denote.Triple.Clauses.{ensured, lasts}
 use Rattle.sheet.specs.Record.{record_at}
 use Rattle.sheet.specs.declared.record.RecordStep.{RecordStep}
-use Rattle.sheet.specs.contracts.record_at as record-at
+use Rattle.sheet.specs.contracts.record_at as record_at
 use Rattle.sheet_records.specs.declared.SheetReader.{SheetReader}
 use Rattle.sheet_records.specs.contracts.SheetReader as T
 use Rattle.sheet_records.proofs.SheetReader.TheLaws as T'

@@ -15,8 +15,10 @@ mod stem;
 ghost use Rattle.std.specs.Prelude.{◌≡◌, ◌<◌, ◌≤◌, length};
 
 use crate::compare::differing;
-use libc::STDIN_FILENO;
 use voice::{Answer, Parsed, parse_voice};
+
+// Standard input's descriptor.
+const STDIN_FILENO: i32 = 0;
 
 fn main() {
     let mut file = [0u8; 1024];

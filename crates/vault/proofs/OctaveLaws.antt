@@ -29,7 +29,7 @@ less_length before (x ∷ l) = ap suc (less_length x l)
 pub added_length : (before : ℤ) (l : List ℤ) → length (added_to before l) ≡ length l
 unfolding added_to
 added_length before [] = refl
-added_length before (x ∷ l) = ap suc (added_length _ l)
+added_length before (x ∷ l) = ap suc (added_length (to_sample (before +ℤ x)) l)
 
 -- ---- from 0
 

@@ -1,0 +1,43 @@
+use mathlib.Core.Path.{◌≡◌, sym, ap, ◌∙◌}
+use Prim.Native.Nat.{ℕ, ◌-◌}
+use native.Mathlib.Omega.{arith}
+use lib.ListN.{length-set}
+use mir.Syntax.{w8}
+use Rattle.laws.proofs.Prefix.{prefix_next, prefix_whole}
+use Rattle.laws.proofs.Signed.{back}
+use Rattle.drawn.specs.Draw.{nth_draw}
+use Rattle.drawn.specs.DrawnVoice.{drawn_samples}
+use Rattle.drawn.proofs.DrawLaws.{samples_length, turn_next, turn_left, turn_last}
+use Rattle.drawn.proofs.draw.put_samples.Goals as goal
+
+pub loop-i-preserved : goal.loop-i-preserved
+loop-i-preserved c =
+    let l = c.loop-i in
+    let a = c.args in
+    let y_is = c.draw-x.ensures in
+    let stored = back w8 c.sample_of_byte.type_inv ∙ c.sample_of_byte.ensures in
+    let next = turn_next a.number a.n l.i l.x _ (omega arith) y_is l.invariant.3 in (
+      omega arith,
+      simp length-set l.invariant.1,
+      rw stored (prefix_next (drawn_samples a.n a.number) _ a.out.now l.out l.i _ next (omega arith) l.invariant.2),
+      turn_left a.number a.n l.i l.x _ (omega arith) y_is l.invariant.3,
+      turn_last a.number a.n l.i l.x _ (omega arith) y_is l.invariant.4,
+    )
+
+pub returns-clause-result : goal.returns-clause-result
+unfolding nth_draw
+returns-clause-result c =
+    let l = c.loop-i in
+    let a = c.args in
+    let all : l.i ≡ a.n = omega arith in
+    let none : a.n - l.i ≡ 0 = omega arith in
+    sym (ap (λ (k : ℕ). nth_draw k l.x) none) ∙ l.invariant.4
+
+pub returns-clause-buffer : goal.returns-clause-buffer
+unfolding nth_draw
+returns-clause-buffer c =
+    let l = c.loop-i in
+    let a = c.args in
+    let all : l.i ≡ a.n = omega arith in
+    let none : a.n - l.i ≡ 0 = omega arith in
+    l.invariant.2 ∙ prefix_whole (drawn_samples a.n a.number) a.out.now l.i (all ∙ sym (samples_length a.n a.number))

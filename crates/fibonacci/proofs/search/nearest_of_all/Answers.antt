@@ -1,0 +1,10 @@
+-- The least key's place is that of the nibble that is picked, by `search_picks`.
+use mathlib.Core.Path.{◌∙◌}
+use mir.Facts.{to_z-of_z}
+use Rattle.fibonacci.proofs.SearchLaws.{search_picks}
+use Rattle.fibonacci.proofs.search.nearest_of_all.Goals as goal
+
+pub returns : goal.returns
+returns c =
+    c.nibble_by_size.ensures ∙
+    rw (c.least_key-least.ensures, to_z-of_z c.ranges.prev, to_z-of_z c.ranges.target) (search_picks c.args.prev c.args.target c.ranges.target)

@@ -1,0 +1,88 @@
+-- `header_volume::kept_digits` meets its contract: twice the remainder, against the unit, says which case of `closest` holds.
+use mathlib.Core.Path.{◌≡◌, sym, ◌∙◌}
+use Prim.Native.Nat.{ℕ, ◌*◌, ◌/◌, ◌%◌, ◌^◌, ◌<◌, ◌≤◌}
+use native.Mathlib.Nat.{mod-lt}
+use lib.Arith.{lt_of_le-ne}
+use native.Mathlib.Numerals.{add-one}
+use native.Mathlib.Omega.{arith}
+use Rattle.header_volume.specs.Volume.{lowest_digit}
+use Rattle.header_volume.proofs.VolumeLaws.{digit_pos, digit_le, quotient_lt, closest_below, closest_tie, closest_above, kept_is}
+use Rattle.header_volume.proofs.kept_digits.Goals as goal
+
+-- what is known of the unit, the quotient and the remainder
+record Known (v u : ℕ) : Type 0 where
+  is : u ≡ lowest_digit v
+  positive : 0 < u
+  small : u ≤ 256
+  quotient : v / u < 2 ^ 24
+  remainder : v % u < u
+
+known : (c : goal.After-lowest_digit-u) → Known c.args.volume c.lowest_digit-u.result
+known c =
+    let v = c.args.volume in
+    let e : c.lowest_digit-u.result ≡ lowest_digit v = c.lowest_digit-u.ensures in
+    record {
+      is = e;
+      positive = rw e (digit_pos v);
+      small = rw e (digit_le v c.ranges.volume.fits);
+      quotient = rw e (quotient_lt v);
+      remainder = rw e (mod-lt v (digit_pos v));
+    }
+
+known_2 : (c : goal.Then-twice-u) → Known c.args.volume c.lowest_digit-u.result
+known_2 c =
+    let v = c.args.volume in
+    let e : c.lowest_digit-u.result ≡ lowest_digit v = c.lowest_digit-u.ensures in
+    record {
+      is = e;
+      positive = rw e (digit_pos v);
+      small = rw e (digit_le v c.ranges.volume.fits);
+      quotient = rw e (quotient_lt v);
+      remainder = rw e (mod-lt v (digit_pos v));
+    }
+
+known_3 : (c : goal.Then-twice-u-2) → Known c.args.volume c.lowest_digit-u.result
+known_3 c =
+    let v = c.args.volume in
+    let e : c.lowest_digit-u.result ≡ lowest_digit v = c.lowest_digit-u.ensures in
+    record {
+      is = e;
+      positive = rw e (digit_pos v);
+      small = rw e (digit_le v c.ranges.volume.fits);
+      quotient = rw e (quotient_lt v);
+      remainder = rw e (mod-lt v (digit_pos v));
+    }
+
+known_4 : (c : goal.Else-twice-u-2) → Known c.args.volume c.lowest_digit-u.result
+known_4 c =
+    let v = c.args.volume in
+    let e : c.lowest_digit-u.result ≡ lowest_digit v = c.lowest_digit-u.ensures in
+    record {
+      is = e;
+      positive = rw e (digit_pos v);
+      small = rw e (digit_le v c.ranges.volume.fits);
+      quotient = rw e (quotient_lt v);
+      remainder = rw e (mod-lt v (digit_pos v));
+    }
+
+pub nonzero_div-q : goal.nonzero_div-q
+nonzero_div-q c = (known c).positive
+
+pub nonzero_rem-twice : goal.nonzero_rem-twice
+nonzero_rem-twice c = (known c).positive
+
+pub overflow_mul-twice : goal.overflow_mul-twice
+overflow_mul-twice c = omega (arith, known c)
+
+pub returns-then-twice-u : goal.returns-then-twice-u
+returns-then-twice-u c = sym (closest_below _ _ c.if-twice-u.true) ∙ kept_is _ _ (known_2 c).is
+
+pub returns-then-twice-u-2 : goal.returns-then-twice-u-2
+returns-then-twice-u-2 c = sym (closest_tie _ _ c.if-twice-u-2.true) ∙ kept_is _ _ (known_3 c).is
+
+pub returns : goal.returns
+returns c =
+    let v = c.args.volume in
+    let u = c.lowest_digit-u.result in
+    let h : u < v % u * 2 = omega (arith, c.if-twice-u.false, lt_of_le-ne c.if-twice-u.false (λ e. c.if-twice-u-2.false (sym e))) in
+    add-one (v / u) ∙ sym (closest_above v u h) ∙ kept_is v u (known_4 c).is

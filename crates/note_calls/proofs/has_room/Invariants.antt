@@ -1,0 +1,12 @@
+-- `note_calls::has_room` meets its contract. The invariant: what is left of the room, for the calls that are left, decides as the whole.
+use Prim.Native.Nat.{◌≤◌, ◌-◌}
+use mathlib.Core.Path.{◌≡◌}
+use lib.ListN.{length, drop}
+use Rattle.note_calls.specs.Made.{room_for}
+use Rattle.note_calls.proofs.has_room.Given as goal
+
+abbrev pub invariant-loop-i : goal.invariant-loop-i
+invariant-loop-i l = (l.i ≤ length l.calls) × (room_for (drop l.i l.calls) l.places_left l.answers_left ≡ room_for l.calls l.places l.answers)
+
+abbrev pub decreases-loop-i : goal.decreases-loop-i
+decreases-loop-i l = length l.calls - l.i

@@ -1,0 +1,34 @@
+-- `note_rules::note_rule::speed_refusal` meets its contract: at each `return` the tests that led there are the rules' own.
+use mathlib.Core.Path.{sym, ◌∙◌}
+use Rattle.note_rules.specs.Rules.{speed_rules}
+use Rattle.refusal.proofs.RuleLaws.{Passed, first_here, first_later, first_none}
+use Rattle.note_rules.proofs.RuleLaws.{is_none, past_most, within_most}
+use Rattle.note_rules.proofs.note_rule.speed_refusal.Goals as goal
+
+step_passed : (c : goal.Then-rate-eq0) → let a = c.args in Passed 1 (speed_rules a.step a.rate)
+step_passed c = first_later _ _ (within_most c.args.step 16777216 c.if-step-eq0.false c.if-step-gt16777216.false)
+
+step_passed_2 : (c : goal.Then-rate-gt192000) → let a = c.args in Passed 1 (speed_rules a.step a.rate)
+step_passed_2 c = first_later _ _ (within_most c.args.step 16777216 c.if-step-eq0.false c.if-step-gt16777216.false)
+
+step_passed_3 : (c : goal.Else-rate-gt192000) → let a = c.args in Passed 1 (speed_rules a.step a.rate)
+step_passed_3 c = first_later _ _ (within_most c.args.step 16777216 c.if-step-eq0.false c.if-step-gt16777216.false)
+
+pub returns-then-step-eq0 : goal.returns-then-step-eq0
+returns-then-step-eq0 c = sym (first_here _ _ (is_none c.args.step 16777216 c.if-step-eq0.true))
+
+pub returns-then-step-gt16777216 : goal.returns-then-step-gt16777216
+returns-then-step-gt16777216 c = sym (first_here _ _ (past_most c.args.step 16777216 c.if-step-eq0.false c.if-step-gt16777216.true))
+
+pub returns-then-rate-eq0 : goal.returns-then-rate-eq0
+returns-then-rate-eq0 c = sym (step_passed c ∙ first_here _ _ (is_none c.args.rate 192000 c.if-rate-eq0.true))
+
+pub returns-then-rate-gt192000 : goal.returns-then-rate-gt192000
+returns-then-rate-gt192000 c =
+    let a = c.args in
+    sym (step_passed_2 c ∙ first_here _ _ (past_most a.rate 192000 c.if-rate-eq0.false c.if-rate-gt192000.true))
+
+pub returns : goal.returns
+returns c =
+    let a = c.args in
+    sym (step_passed_3 c ∙ first_later _ _ (within_most a.rate 192000 c.if-rate-eq0.false c.if-rate-gt192000.false) ∙ first_none)

@@ -1,0 +1,20 @@
+use mathlib.Core.Path.{◌∙◌, ap}
+use Prim.Native.Nat.{◌-◌}
+use native.Mathlib.Omega.{arith}
+use lib.IntN.{pos}
+use lib.ListN.{get_or, length-set}
+use mir.Syntax.{w8}
+use Rattle.laws.proofs.Prefix.{prefix_map}
+use Rattle.laws.proofs.Signed.{back}
+use Rattle.field.specs.Signed.{byte_of}
+use Rattle.samples.proofs.raw.copy_to_bytes.Goals as goal
+
+pub loop-i-preserved : goal.loop-i-preserved
+loop-i-preserved c =
+    let l = c.loop-i in
+    let a = c.args in
+    let byte = c.byte_of_sample.ensures ∙ ap byte_of (back w8 {z = get_or a.samples.now l.i (pos 0)} c.byte_of_sample-arg-1.given) in (
+      omega arith,
+      simp length-set l.invariant.1,
+      prefix_map byte_of a.samples.now a.out.now l.out l.i (pos 0) _ (omega arith) (omega arith) l.invariant.2 byte,
+    )

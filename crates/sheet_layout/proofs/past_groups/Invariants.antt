@@ -1,0 +1,13 @@
+-- `sheet_layout::past_groups` meets its contract. The invariant: the place and the run that is left end where the whole run ends.
+-- Each turn passes one record of it, and there is less of the sheet left.
+use Prim.Native.Nat.{◌+◌, ◌-◌}
+use lib.ListN.{length, drop}
+use mathlib.Core.Path.{◌≡◌}
+use Rattle.sheet_layout.specs.Stretch.{stretch}
+use Rattle.sheet_layout.proofs.past_groups.Given as goal
+
+abbrev pub invariant-loop-i : goal.invariant-loop-i
+invariant-loop-i l = l.i + stretch l.opens l.member l.n (drop l.i l.sheet) ≡ l.at + stretch l.opens l.member l.n (drop l.at l.sheet)
+
+abbrev pub decreases-loop-i : goal.decreases-loop-i
+decreases-loop-i l = length l.sheet - l.i

@@ -1,0 +1,15 @@
+-- `sheet_read::text_chunk::put_texts` meets its contract. The invariant: to store the texts of the chunks that are left is to store
+-- all of them. `turn` splits off the text of a chunk.
+use Prim.Native.Nat.{◌-◌}
+use lib.ListN.{length}
+use mathlib.Core.Path.{◌≡◌}
+use Rattle.laws.proofs.PutLaws.{Underway}
+use Rattle.chunk.specs.Chunk.{items_from}
+use Rattle.sheet_read.specs.Parts.{text_part}
+use Rattle.sheet_read.proofs.text_chunk.put_texts.Given as goal
+
+abbrev pub invariant-loop-id : goal.invariant-loop-id
+invariant-loop-id l = Underway l.initial.d l.at (text_part (items_from l.form 12)) l.d l.o (text_part (items_from l.form l.p)) × (length l.d ≡ length l.initial.d)
+
+abbrev pub decreases-loop-id : goal.decreases-loop-id
+decreases-loop-id l = length l.form - l.p

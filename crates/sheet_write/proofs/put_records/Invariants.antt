@@ -1,0 +1,14 @@
+-- The invariant is `Underway` over the chunks of the records that are left; `turn` splits off that of the record in hand.
+use Prim.Native.Nat.{◌-◌}
+use lib.ListN.{length, drop}
+use mathlib.Core.Path.{◌≡◌}
+use Rattle.laws.proofs.PutLaws.{Underway}
+use Rattle.sheet.specs.Record.{records}
+use Rattle.sheet_write.specs.RecordChunks.{record_chunks}
+use Rattle.sheet_write.proofs.put_records.Given as goal
+
+abbrev pub invariant-loop-kind : goal.invariant-loop-kind
+invariant-loop-kind l = Underway l.initial.d l.at (record_chunks (records l.sheet)) l.d l.o (record_chunks (records (drop l.p l.sheet))) × (length l.d ≡ length l.initial.d)
+
+abbrev pub decreases-loop-kind : goal.decreases-loop-kind
+decreases-loop-kind l = length l.sheet - l.p

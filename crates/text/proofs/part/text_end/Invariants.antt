@@ -1,0 +1,13 @@
+-- The invariant: the fold `text_end` from here on is the whole fold.
+use Prim.Native.Nat.{◌-◌, ◌≤◌}
+use lib.ListN.{length}
+use mathlib.Core.Path.{◌≡◌}
+use Rattle.text.specs.Place.{text_end}
+use Rattle.text_utf8.specs.Step.{subsequences_from}
+use Rattle.text.proofs.part.text_end.Given as goal
+
+abbrev pub invariant-loop-next : goal.invariant-loop-next
+invariant-loop-next l = (text_end l.end l.at (subsequences_from l.s l.at) ≡ text_end l.from l.from (subsequences_from l.s l.from)) × (l.from ≤ l.end) × (l.end ≤ l.at) × (l.at ≤ length l.s)
+
+abbrev pub decreases-loop-next : goal.decreases-loop-next
+decreases-loop-next l = length l.s - l.at

@@ -1,0 +1,21 @@
+-- After i turns each part of `out` holds its first i values, and from `before` and the samples that are left come the differences that are left.
+use mathlib.Core.Path.{◌≡◌}
+use Prim.Native.Nat.{◌+◌, ◌-◌, ◌≤◌, ◌<◌}
+use lib.IntN.{pos}
+use lib.ListN.{length, take, drop, get_or}
+use mir.Syntax.{w8}
+use mir.Val.{SFits, to_z}
+use Rattle.laws.specs.Turns.{evens, odds}
+use Rattle.vault.specs.DifferenceOrder.{less_before}
+use Rattle.vault.proofs.PartedLaws.{parted}
+use Rattle.vault.proofs.octave.order_octave.Given as goal
+
+abbrev pub invariant-loop-i : goal.invariant-loop-i
+invariant-loop-i l =
+    (l.i ≤ l.pairs) × (length l.out ≡ length l.initial.out)
+    × (l.out ≡ parted (evens (values l.samples)) (odds (values l.samples)) (take l.half l.initial.out) (drop l.half l.initial.out) l.i l.i)
+    × (less_before l.before (drop (l.i + l.i) l.samples) ≡ drop (l.i + l.i) (values l.samples))
+    × (0 < l.i → SFits w8 (get_or l.samples 0 (pos 0)))
+
+abbrev pub decreases-loop-i : goal.decreases-loop-i
+decreases-loop-i l = l.pairs - l.i
