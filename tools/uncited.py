@@ -2,7 +2,7 @@
 """Lists definitions and laws that nothing cites, and imports that their file doesn't use. Run from the root; 1 where there are any.
 
 A definition is cited by a token of its own file outside it, or, where it is pub, of a file that imports it from its module; what only
-uncited ones cite is uncited as well. Kept are: what the documents name, the proof of a function (NAME-spec in its Proof.antt), closed
+uncited ones cite is uncited as well. Kept are: what the documents name, the answers and invariants of a function's proof (Answers.antt, Invariants.antt), closed
 examples (Examples.antt), and in `demands` the types and their values. Fields and constructors are never listed; a constructor's use is its
 type's. A `pub use` in a .rt is a use.
 """
@@ -29,15 +29,15 @@ def bare(line, mark):
 def path_of(module):
     """The file of a module of the repository, by its name inside or outside its crate; None for the toolchain's."""
     parts = module.replace("«", "").replace("»", "").split(".")
-    crate = re.fullmatch(r"Rattle·(\w+?)(?:·(?:specs|proofs))?", parts[0])
-    if not crate or len(parts) < 3 or parts[1] not in ("specs", "proofs"):
+    if parts[0] != "Rattle" or len(parts) < 4 or parts[2] not in ("specs", "proofs"):
         return None
-    return "crates/" + "/".join([crate[1]] + parts[1:]) + ".antt"
+    return "crates/" + "/".join(parts[1:]) + ".antt"
 
 
 class Definition:
     def __init__(self, path, line, name, kind, rest):
         self.path, self.line, self.name, self.kind, self.rest = path, line, name, kind, rest
+        self.text = ""
         self.names = [name]  # with the constructors
         self.uncited = False
 
@@ -91,6 +91,7 @@ class File:
                 level = min(level, len(head[1]))
                 if head[2] or re.match(r" :(\s|$)", head[4]):
                     current = Definition(self.path, number, head[3], head[2], head[4])
+                    current.text = line.strip()
                     self.definitions.append(current)
             if current and current.kind == "data":
                 constructor = re.match(r" +(\S+) :", line)
@@ -104,8 +105,8 @@ def is_in(name, have, text):
     """Whether a name is among the tokens; one with places for arguments, where its parts are."""
     if re.search(r"[()\[\]{}]", name):
         return name in text
-    if name.startswith("_") or name.endswith("_"):
-        return all(part in have for part in name.split("_") if part)
+    if "◌" in name:
+        return all(part in have for part in name.split("◌") if part)
     return name in have
 
 
@@ -122,7 +123,7 @@ def kept(definition, named, demands):
     parts = definition.path.split("/")
     if definition.path.endswith("/Examples.antt") or definition.name in named:
         return True
-    if parts[-1] == "Proof.antt" and definition.name == parts[-2].replace("_", "-") + "-spec":
+    if parts[-1] in ("Answers.antt", "Invariants.antt") and re.match(r"(abbrev )?pub ", definition.text):
         return True
     if parts[1] == "demands":
         return parts[2] == "specs" or any(t in demands for t in tokens(definition.rest)[1:2])
@@ -163,7 +164,7 @@ def citations(files):
 
 
 def main():
-    paths = sorted(glob.glob("crates/**/*.antt", recursive=True) + glob.glob("crates/**/*.rt", recursive=True))
+    paths = sorted([p for p in glob.glob("crates/**/*.antt", recursive=True) if "/out/" not in p] + [p for p in glob.glob("crates/**/*.rt", recursive=True) if "/out/" not in p])
     files = [File(path) for path in paths]
     definitions = [d for f in files for d in f.definitions]
     demands = {d.name for d in definitions if d.path.startswith("crates/demands/specs/")}

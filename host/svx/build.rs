@@ -57,7 +57,7 @@ fn built_folder() -> Result<PathBuf, String> {
     }
     if !archive.is_file() {
         return Err(format!(
-            "rt staticlib svx ended well, but there is no {}",
+            "tools/archive.sh ended well, but there is no {}",
             archive.display()
         ));
     }
@@ -78,6 +78,10 @@ fn newest(folder: &Path) -> io::Result<SystemTime> {
     let mut newest = SystemTime::UNIX_EPOCH;
     for entry in fs::read_dir(folder)? {
         let entry = entry?;
+        if entry.file_name() == "out" {
+            // what the toolchain made
+            continue;
+        }
         let changed = if entry.file_type()?.is_dir() {
             self::newest(&entry.path())?
         } else {
@@ -90,11 +94,16 @@ fn newest(folder: &Path) -> io::Result<SystemTime> {
 
 /// Has the toolchain prove the library and write the archive.
 fn prove(root: &Path, why: &str) -> Result<(), String> {
-    eprintln!("svx: target/staticlib/{ARCHIVE} {why}; running rt staticlib svx.");
+    eprintln!("svx: target/staticlib/{ARCHIVE} {why}; running tools/archive.sh.");
     eprintln!("svx: It proves the library first, which takes minutes from nothing.");
-    match Command::new("rt").args(["staticlib", "svx"]).current_dir(root).status() {
+    // rt is asked first, so that its absence has words of its own
+    let made = Command::new("rt")
+        .arg("version")
+        .output()
+        .and_then(|_| Command::new(root.join("tools/archive.sh")).status());
+    match made {
         Ok(status) if status.success() => Ok(()),
-        Ok(status) => Err(format!("rt staticlib svx failed ({status})")),
+        Ok(status) => Err(format!("tools/archive.sh failed ({status})")),
         Err(e) if e.kind() == io::ErrorKind::NotFound => Err(format!(
             "target/staticlib/{ARCHIVE} {why}, and there is no rt on the PATH to build it: install the Rattle \
              toolchain, or let SVX_LIB_DIR name a folder that has the archive"

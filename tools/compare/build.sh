@@ -6,7 +6,7 @@ set -e
 oracle=${1:?usage: build.sh ORACLE [OUT]}
 out=${2:-target/compare}
 mkdir -p "$out"
-rt staticlib svx
+tools/archive.sh
 rustc --edition 2021 -C opt-level=3 -C target-cpu=x86-64 -o "$out/compare" tools/compare/main.rs \
     -L "$oracle" --extern oracle="$oracle/liboracle.rlib" --extern oxideav_core="$oracle/liboxideav_core.rlib" \
     -L target/staticlib -l static=svx

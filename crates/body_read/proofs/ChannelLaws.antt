@@ -18,7 +18,7 @@ use Rattle.laws.specs.Buffer.{written}
 use Rattle.refusal.specs.Numbers.{channel_short, octave_total, samples_short}
 use Rattle.refusal.specs.Outcome.{Outcome, gives, refuses, and_then, buffer_after}
 use Rattle.field.specs.Signed.{sample_of}
-use Rattle.header.specs.Octaves.{hi, total_samples, total}
+use Rattle.header.specs.Octaves.{hi, total_samples}
 use Rattle.header.specs.declared.compression.Compression.{Compression}
 use Rattle.header.specs.declared.compression.Compression.TheVariants.{None, Fibonacci}
 use Rattle.header.specs.declared.voice_header.VoiceHeader.{VoiceHeader}

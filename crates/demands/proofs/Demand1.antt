@@ -4,7 +4,7 @@ use Prim.Native.Nat.{ℕ, zero, suc, ◌^◌}
 use mathlib.Core.Bool.{Bool, true, false, cond}
 use mathlib.Core.List.{List, [], ◌∷◌, map}
 use mathlib.Core.Logic.{inl, inr}
-use mathlib.Core.Path.{◌≡◌, refl}
+use mathlib.Core.Path.{◌≡◌, refl, subst}
 use lib.Dec.{eqb, leb, ltb}
 use lib.IntN.{ℤ}
 use lib.ListN.{length}
@@ -58,7 +58,7 @@ use Rattle.demands.proofs.MixNumbers.{mix_or_keeps}
 
 module _ {A : Type 0} (numbers : List ℕ) where
   fills_or_keeps : (o : Outcome (List A)) → Within numbers o → FillsOrKeeps numbers o
-  fills_or_keeps (refuses k) w buffer n e = let same : k ≡ n = cc in (inr (rw (← same) w), refl)
+  fills_or_keeps (refuses k) w buffer n e = let same : k ≡ n = cc in (inr (subst (λ x. Among x numbers) same w), refl)
   fills_or_keeps (gives xs) w buffer n e = go (leb (length xs) (length buffer)) e
     where
       go : (t : Bool) → cond t (Output.Length (length xs)) (Output.Refused buffer_short) ≡ Output.Refused n
@@ -78,7 +78,7 @@ needed_within (refuses k) w n e = let same : k ≡ n = cc in rw (← same) w
 
 reading_or_keeps : (numbers : List ℕ) (o : Outcome Reading) (b : Lent) (n : ℕ) → Within numbers o → (reading_leaves o b).parsed ≡ Parsed.Refused n
     → Among n (buffer_short ∷ numbers) × ((reading_leaves o b).buffers ≡ b)
-reading_or_keeps numbers (refuses k) b n w e = let same : k ≡ n = cc in (inr (rw (← same) w), refl)
+reading_or_keeps numbers (refuses k) b n w e = let same : k ≡ n = cc in (inr (subst (λ x. Among x numbers) same w), refl)
 reading_or_keeps numbers (gives r) b n w e = go (fits r (length b.sheet) (length b.left) (length b.right)) e
   where
     kept : ReadResult

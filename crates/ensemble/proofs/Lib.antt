@@ -3,4 +3,3 @@ pub mod MixLaws
 pub mod FitsLaws
 pub mod AcceptedLaws
 pub mod Promise
-pub mod CallRules

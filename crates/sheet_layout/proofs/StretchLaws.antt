@@ -117,7 +117,7 @@ module _ (o m n : ℕ) where
     module _ (r : List ℕ) (other : starts_with o r ≡ false) (no_member : starts_with m r ≡ false) where
       pub groups_passed : (gs : List (List A)) → stretch o m n (each (λ as'. o ∷ each (λ a. m ∷ f a) as') gs ++ r) ≡ length (each (λ as'. o ∷ each (λ a. m ∷ f a) as') gs)
       unfolding Passed
-      groups_passed gs = passed_each _ passed_group gs r ∙ rw (stretch_end o m n r other no_member) (omega arith)
+      groups_passed gs = passed_each (λ as'. o ∷ each (λ a. m ∷ f a) as') passed_group gs r ∙ rw (stretch_end o m n r other no_member) (omega arith)
 
       -- one group, which may be missing
       pub group_passed : (g : Option (List A)) → stretch o m n (if_there (λ as'. o ∷ each (λ a. m ∷ f a) as') g ++ r) ≡ length (if_there (λ as'. o ∷ each (λ a. m ∷ f a) as') g)

@@ -4,8 +4,6 @@ use mathlib.Core.List.{◌++◌}
 use Prim.Native.Nat.{◌+◌, ◌-◌, ◌≤◌, ◌<◌}
 use lib.IntN.{pos}
 use lib.ListN.{length, take, drop, get_or}
-use mir.Syntax.{w8}
-use mir.Val.{to_z}
 use Rattle.fibonacci.specs.Decode.{fib_samples}
 use Rattle.laws.specs.Turns.{by_turns}
 use Rattle.body_decode.specs.Body.{frame_bytes}

@@ -10,7 +10,7 @@ returns-then-body-k c = (omega arith, nibble_past c.args.body.now c.args.m c.if-
 pub returns-then-m-eq0 : goal.returns-then-m-eq0
 returns-then-m-eq0 c =
     let a = c.args in
-    (omega (arith, c.shared_slice_known-1.given (2 + a.m / 2)), nibble_even a.body.now a.m c.if-m-eq0.true)
+    (omega (arith, c.type_inv.body (2 + a.m / 2)), nibble_even a.body.now a.m c.if-m-eq0.true)
 
 pub returns-else-m-eq0 : goal.returns-else-m-eq0
 returns-else-m-eq0 c =

@@ -6,7 +6,7 @@ use Rattle.body_write.proofs.put_body.Goals as goal
 pub put_channels-p-requires : goal.put_channels-p-requires
 put_channels-p-requires c =
     let put = c.put_head-o in
-    (omega arith, omega arith, omega (arith, head_end _ _ put.ensures, put.kept.1.1.0))
+    (omega arith, omega arith, omega (arith, head_end _ _ put.ensures, put.auto.d))
 
 pub put_pad-requires : goal.put_pad-requires
 put_pad-requires c = omega (arith, c.put_channels-p.ensures.end, head_end _ _ c.put_head-o.ensures)

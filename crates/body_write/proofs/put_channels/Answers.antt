@@ -14,7 +14,7 @@ put_channel-requires c =
     let a = c.args in
     let put = c.put_channel-o in
     let both = two_length a.c a.stereo a.left.now a.right.now c.if-stereo.true in
-    (omega arith, omega (arith, both, put.ensures.end, put.kept.1.1.0))
+    (omega arith, omega (arith, both, put.ensures.end, put.auto.d))
 
 pub returns-then-stereo : goal.returns-then-stereo
 returns-then-stereo c =

@@ -1,8 +1,6 @@
 use Prim.Native.Nat.{◌-◌, ◌≤◌}
 use lib.ListN.{length, drop}
 use mathlib.Core.Path.{◌≡◌}
-use mir.Syntax.{w32}
-use mir.Val.{to_z}
 use Rattle.small_chunks.specs.Envelope.{envelope_points}
 use Rattle.envelope.specs.Envelope.{level_at}
 use Rattle.envelope.proofs.level_at_ms.Given as goal

@@ -13,7 +13,7 @@ unfolding channel_at
 returns c =
     let s = c.args.sheet.now in
     let v = read_sheet s in
-    let e = sound_flat s c.shared_slice_known-1.given c.requires in
+    let e = sound_flat s c.type_inv.sheet c.requires in
     let pan = pass_to (one_length 2 2) s 21 (channel_at v) _ (pan_at v) refl c.past_one-pan.ensures (pass_channel v s e) in
     let attacks = pass_to (one_length 3 5) s _ (pan_at v) _ (attacks_at v) pan c.past_one-attacks.ensures (pass_pan v s e) in
     let releases = pass_to (stretch 4 6 7) s _ (attacks_at v) _ (releases_at v) attacks c.past_groups-releases.ensures (pass_attacks v s e) in

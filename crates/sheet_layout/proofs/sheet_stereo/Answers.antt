@@ -1,15 +1,21 @@
 -- `sheet_layout::sheet_stereo` meets its contract: where the pass over a channel moves on, there is one, and its byte is 6 exactly if it
 -- says two channels.
+use Prim.Native.Nat.{ℕ, ◌+◌}
 use lib.Dec.{eqb}
-use mathlib.Core.List.{[], ◌∷◌}
+use lib.ListN.{get_or, drop}
+use mathlib.Core.List.{List, [], ◌∷◌}
+use mathlib.Core.Option.{some}
 use mathlib.Core.Path.{◌≡◌, refl, sym, ap, ◌∙◌}
 use native.Mathlib.Omega.{arith}
+use mir.Syntax.{w8}
+use mir.Val.{Fits}
 use Rattle.small_chunks.specs.Channel.{channel_value_of}
 use Rattle.small_chunks.specs.declared.channel.ChannelAssignment.{ChannelAssignment}
 use Rattle.small_chunks.specs.declared.channel.ChannelAssignment.TheVariants.{Left, Right, Stereo}
+use Rattle.sheet.specs.Judge.{judged}
 use Rattle.sheet.specs.Read.{read_sheet}
 use Rattle.sheet.specs.Voice.{is_stereo}
-use mathlib.Core.Option.{some}
+use Rattle.sheet.specs.declared.judge.Judged.TheVariants.{Sound}
 use Rattle.sheet_layout.specs.Layout.{channel_at, pan_at, layout_of}
 use Rattle.sheet_layout.specs.Stretch.{one_length}
 use Rattle.sheet_layout.proofs.PartLaws.{from_pan, pass_to, pass_channel}
@@ -17,65 +23,32 @@ use Rattle.sheet_layout.proofs.SoundLaws.{sound_flat}
 use Rattle.sheet_layout.proofs.ThereLaws.{Present, channel_missing, channel_present, channel_byte}
 use Rattle.sheet_layout.proofs.sheet_stereo.Goals as goal
 
--- the pass ends where the pan begins
-passed : (c : goal.Then-pan-eq21) → c.past_one-pan.result ≡ pan_at (read_sheet c.args.sheet.now)
-unfolding channel_at
-passed c =
-    let s = c.args.sheet.now in
-    let v = read_sheet s in
-    let e = sound_flat s c.shared_slice_known-1.given c.requires in
-    pass_to (one_length 2 2) s 21 (channel_at v) _ (pan_at v) refl c.past_one-pan.ensures (pass_channel v s e)
+module _ (s : List ℕ) (bytes : (i : ℕ) → Fits w8 (get_or s i 0)) (sound : judged s ≡ Sound) (pan : ℕ) (is : pan ≡ 21 + one_length 2 2 (drop 21 s)) where
+  -- the pass ends where the pan begins
+  passed : pan ≡ pan_at (read_sheet s)
+  unfolding channel_at
+  passed =
+      let v = read_sheet s in
+      pass_to (one_length 2 2) s 21 (channel_at v) _ (pan_at v) refl is (pass_channel v s (sound_flat s bytes sound))
 
--- the pass ends where the pan begins
-passed_2 : (c : goal.After-shared_slice_known-2-1-unread) → c.past_one-pan.result ≡ pan_at (read_sheet c.args.sheet.now)
-unfolding channel_at
-passed_2 c =
-    let s = c.args.sheet.now in
-    let v = read_sheet s in
-    let e = sound_flat s c.shared_slice_known-1.given c.requires in
-    pass_to (one_length 2 2) s 21 (channel_at v) _ (pan_at v) refl c.past_one-pan.ensures (pass_channel v s e)
-
--- the pass ends where the pan begins
-passed_3 : (c : goal.After-shared_slice_known-2-1) → c.past_one-pan.result ≡ pan_at (read_sheet c.args.sheet.now)
-unfolding channel_at
-passed_3 c =
-    let s = c.args.sheet.now in
-    let v = read_sheet s in
-    let e = sound_flat s c.shared_slice_known-1.given c.requires in
-    pass_to (one_length 2 2) s 21 (channel_at v) _ (pan_at v) refl c.past_one-pan.ensures (pass_channel v s e)
+  -- it is there
+  here : (pan ≡ 21 → ⊥) → let v = read_sheet s in Present (λ x. channel_value_of x ∷ []) v.channel 21 s (from_pan v)
+  unfolding channel_at
+  here moves =
+      let v = read_sheet s in
+      channel_present v (layout_of v) refl s (sound_flat s bytes sound) (λ n. moves (passed ∙ sym n))
 
 pub returns-then-pan-eq21 : goal.returns-then-pan-eq21
 unfolding channel_at
 returns-then-pan-eq21 c =
-    let v = read_sheet c.args.sheet.now in
-    sym (ap is_stereo (channel_missing v (layout_of v) refl (sym c.if-pan-eq21.true ∙ passed c)))
-
--- it is there
-here : (c : goal.After-shared_slice_known-2-1-unread) →
     let s = c.args.sheet.now in
     let v = read_sheet s in
-    Present (λ x. channel_value_of x ∷ []) v.channel 21 s (from_pan v)
-unfolding channel_at
-here c =
-    let s = c.args.sheet.now in
-    let v = read_sheet s in
-    let e = sound_flat s c.shared_slice_known-1.given c.requires in
-    channel_present v (layout_of v) refl s e (λ n. c.if-pan-eq21.false (passed_2 c ∙ sym n))
-
--- it is there
-here_2 : (c : goal.After-shared_slice_known-2-1) →
-    let s = c.args.sheet.now in
-    let v = read_sheet s in
-    Present (λ x. channel_value_of x ∷ []) v.channel 21 s (from_pan v)
-unfolding channel_at
-here_2 c =
-    let s = c.args.sheet.now in
-    let v = read_sheet s in
-    let e = sound_flat s c.shared_slice_known-1.given c.requires in
-    channel_present v (layout_of v) refl s e (λ n. c.if-pan-eq21.false (passed_3 c ∙ sym n))
+    sym (ap is_stereo (channel_missing v (layout_of v) refl (sym c.if-pan-eq21.true ∙ passed s c.type_inv.sheet c.requires _ c.past_one-pan.ensures)))
 
 pub bounds-sheet-22 : goal.bounds-sheet-22
-bounds-sheet-22 c = let p = here c in omega arith
+bounds-sheet-22 c =
+    let p = here c.args.sheet.now c.type_inv.sheet c.requires _ c.past_one-pan.ensures c.if-pan-eq21.false in
+    omega arith
 
 by_value : (x : ChannelAssignment) → eqb (channel_value_of x) 6 ≡ is_stereo (some x)
 by_value Left = refl
@@ -84,5 +57,5 @@ by_value Stereo = refl
 
 pub returns : goal.returns
 returns c =
-    let p = here_2 c in
+    let p = here c.args.sheet.now c.type_inv.sheet c.requires _ c.past_one-pan.ensures c.if-pan-eq21.false in
     ap (λ b. eqb b 6) (channel_byte p) ∙ by_value p.value ∙ sym (ap is_stereo p.is)

@@ -7,6 +7,6 @@ use Rattle.sheet_write.proofs.chunks_length.Goals as goal
 pub returns : goal.returns
 returns c =
     let s = c.args.sheet.now in
-    let bytes : Bytes s = λ i. (c.shared_slice_known-1.given i).fits in
+    let bytes : Bytes s = λ i. (c.type_inv.sheet i).fits in
     let end = c.put_chunks.ensures.end in
     (omega (arith, end), omega (arith, end, sheet_bound s bytes c.requires.0))

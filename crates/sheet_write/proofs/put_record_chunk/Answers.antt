@@ -49,14 +49,13 @@ returns-in-10 c =
 
 pub returns-in_default : goal.returns-in_default
 returns-in_default c =
-    let n = c.in_default.rest in
-    rw (no_chunk _ _ _ record {
-      no_header = n.0.0.0.0.0.0.0.1;
-      no_channel = n.0.0.0.0.0.0.1;
-      no_pan = n.0.0.0.0.0.1;
-      no_attack = n.0.0.0.0.1;
-      no_release = n.0.0.0.1;
-      no_sequence = n.0.0.1;
-      no_fade = n.0.1;
-      no_text = n.1;
+    rw (no_chunk c.args.kind _ _ record {
+      no_header = omega arith;
+      no_channel = omega arith;
+      no_pan = omega arith;
+      no_attack = omega arith;
+      no_release = omega arith;
+      no_sequence = omega arith;
+      no_fade = omega arith;
+      no_text = omega arith;
     }) (put_none _ _)

@@ -1,57 +1,48 @@
 -- `body_read::decode::decode_sides` meets its contract: the match says whether the compression is known, and the test how many channels there are.
-use mathlib.Core.Path.{◌≡◌, refl, sym, ◌∙◌}
-use Rattle.header.specs.Compression.{known_compression}
-use Rattle.header.specs.declared.compression.KnownCompression.TheVariants.{Known}
+use mathlib.Core.Path.{refl, sym, ◌∙◌}
 use Rattle.body_read.proofs.SideLaws.{sides_unknown, sides_two, sides_one, one_written}
 use Rattle.body_read.proofs.decode.decode_sides.Goals as goal
-
--- the compression that is known
-found : (c : goal.After-decode_two-arg-then-stereo-1) → known_compression c.args.h.compression_byte ≡ Known c.in-Known.c
-found c = sym c.compression.ensures ∙ c.in-Known.is
-
--- the compression that is known
-found_2 : (c : goal.After-right-1) → known_compression c.args.h.compression_byte ≡ Known c.in-Known.c
-found_2 c = sym c.compression.ensures ∙ c.in-Known.is
-
--- the compression that is known
-found_3 : (c : goal.After-left-else-stereo-1) → known_compression c.args.h.compression_byte ≡ Known c.in-Known.c
-found_3 c = sym c.compression.ensures ∙ c.in-Known.is
 
 pub decode_two-requires : goal.decode_two-requires
 decode_two-requires c =
     let a = c.args in
-    rw (sides_two a.h a.stereo a.body.now c.in-Known.c (found c) c.if-stereo.true) at c.requires
+    let found = sym c.compression.ensures ∙ c.in-Known.is in
+    rw (sides_two a.h a.stereo a.body.now c.in-Known.c found c.if-stereo.true) at c.requires
 
 pub returns-in-Refused-clause-left : goal.returns-in-Refused-clause-left
 returns-in-Refused-clause-left c =
     let a = c.args in
-    (rw (sides_unknown a.h a.stereo a.body.now _ (sym c.compression.ensures ∙ c.in-Refused.is)) (refl, refl)).0
+    rw (sides_unknown a.h a.stereo a.body.now _ (sym c.compression.ensures ∙ c.in-Refused.is)) refl
 
 pub returns-in-Refused-clause-right : goal.returns-in-Refused-clause-right
 returns-in-Refused-clause-right c =
     let a = c.args in
-    (rw (sides_unknown a.h a.stereo a.body.now _ (sym c.compression.ensures ∙ c.in-Refused.is)) (refl, refl)).1
+    rw (sides_unknown a.h a.stereo a.body.now _ (sym c.compression.ensures ∙ c.in-Refused.is)) refl
 
 pub returns-then-stereo-clause-left : goal.returns-then-stereo-clause-left
 returns-then-stereo-clause-left c =
     let a = c.args in
-    (rw (sides_two a.h a.stereo a.body.now c.in-Known.c (found_2 c) c.if-stereo.true) c.decode_two.ensures).0
+    let found = sym c.compression.ensures ∙ c.in-Known.is in
+    rw (sides_two a.h a.stereo a.body.now c.in-Known.c found c.if-stereo.true) c.decode_two.ensures.left
 
 pub returns-then-stereo-clause-right : goal.returns-then-stereo-clause-right
 returns-then-stereo-clause-right c =
     let a = c.args in
-    (rw (sides_two a.h a.stereo a.body.now c.in-Known.c (found_2 c) c.if-stereo.true) c.decode_two.ensures).1
+    let found = sym c.compression.ensures ∙ c.in-Known.is in
+    rw (sides_two a.h a.stereo a.body.now c.in-Known.c found c.if-stereo.true) c.decode_two.ensures.right
 
 pub returns-else-stereo-clause-left : goal.returns-else-stereo-clause-left
 returns-else-stereo-clause-left c =
     let a = c.args in
     let k = c.in-Known.c in
-    let one = sides_one a.h a.stereo a.body.now k (found_3 c) c.if-stereo.false in
-    (rw one (one_written a.h k a.body.now a.left.now a.right.now _ (rw one at c.requires) c.decode_channel.ensures.buffer)).0
+    let one = sides_one a.h a.stereo a.body.now k (sym c.compression.ensures ∙ c.in-Known.is) c.if-stereo.false in
+    let buffers = one_written a.h k a.body.now a.left.now a.right.now _ (rw one at c.requires) c.decode_channel.ensures.buffer in
+    rw one buffers.0
 
 pub returns-else-stereo-clause-right : goal.returns-else-stereo-clause-right
 returns-else-stereo-clause-right c =
     let a = c.args in
     let k = c.in-Known.c in
-    let one = sides_one a.h a.stereo a.body.now k (found_3 c) c.if-stereo.false in
-    (rw one (one_written a.h k a.body.now a.left.now a.right.now _ (rw one at c.requires) c.decode_channel.ensures.buffer)).1
+    let one = sides_one a.h a.stereo a.body.now k (sym c.compression.ensures ∙ c.in-Known.is) c.if-stereo.false in
+    let buffers = one_written a.h k a.body.now a.left.now a.right.now _ (rw one at c.requires) c.decode_channel.ensures.buffer in
+    rw one buffers.1

@@ -11,12 +11,12 @@ use Rattle.body_read.proofs.decode.decode_two.Goals as goal
 pub returns-then-is_uneven-clause-left : goal.returns-then-is_uneven-clause-left
 returns-then-is_uneven-clause-left c =
     let a = c.args in
-    (rw (two_uneven a.h a.c a.body.now (sym c.is_uneven.ensures ∙ c.if-is_uneven.true)) (refl, refl)).0
+    rw (two_uneven a.h a.c a.body.now (sym c.is_uneven.ensures ∙ c.if-is_uneven.true)) refl
 
 pub returns-then-is_uneven-clause-right : goal.returns-then-is_uneven-clause-right
 returns-then-is_uneven-clause-right c =
     let a = c.args in
-    (rw (two_uneven a.h a.c a.body.now (sym c.is_uneven.ensures ∙ c.if-is_uneven.true)) (refl, refl)).1
+    rw (two_uneven a.h a.c a.body.now (sym c.is_uneven.ensures ∙ c.if-is_uneven.true)) refl
 
 pub returns-clause-left : goal.returns-clause-left
 returns-clause-left c =

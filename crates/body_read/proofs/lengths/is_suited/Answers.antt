@@ -1,6 +1,5 @@
 -- `body_read::lengths::is_suited` meets its contract: at each `return` the tests that led there say which lengths suit.
 use mathlib.Core.Bool.{true}
-use mathlib.Core.Logic.{⊎_elim}
 use mathlib.Core.Path.{◌≡◌, sym, ap, ◌∙◌}
 use native.Mathlib.Omega.{arith}
 use borrow.Author.Tests.{eq-eqb, ne_eqb}
@@ -9,32 +8,7 @@ use Rattle.header.specs.Octaves.{hi, total_samples}
 use Rattle.header.proofs.OctaveLaws.{total_is, total_not}
 use Rattle.body_read.proofs.SideLaws.{right_suits, suit_not, suit_is}
 use Rattle.body_read.proofs.lengths.is_suited.Goals as goal
-
--- past both tests the right side is as long as it should be
-right_is : (c : goal.Then-hi_octave_samples-eq0) → right_suits c.args.h c.args.stereo c.args.left c.args.right ≡ true
-right_is c =
-    let a = c.args in
-    ⊎_elim (λ w. rw w.0.taken (eq-eqb a.right a.left w.1.left)) (λ w. rw w.0.left (eq-eqb a.right 0 w.1.left)) c.if-stereo.branch
-
--- past both tests the right side is as long as it should be
-right_is_2 : (c : goal.In-Refused) → right_suits c.args.h c.args.stereo c.args.left c.args.right ≡ true
-right_is_2 c =
-    let a = c.args in
-    ⊎_elim (λ w. rw w.0.taken (eq-eqb a.right a.left w.1.left)) (λ w. rw w.0.left (eq-eqb a.right 0 w.1.left)) c.if-stereo.branch
-
--- past both tests the right side is as long as it should be
-right_is_3 : (c : goal.In-Sum) → right_suits c.args.h c.args.stereo c.args.left c.args.right ≡ true
-right_is_3 c =
-    let a = c.args in
-    ⊎_elim (λ w. rw w.0.taken (eq-eqb a.right a.left w.1.left)) (λ w. rw w.0.left (eq-eqb a.right 0 w.1.left)) c.if-stereo.branch
-
--- hi is not 0
-some : (c : goal.In-Refused) → hi c.args.h ≡ 0 → ⊥
-some c e = c.if-hi_octave_samples-eq0.false (c.hi_octave_samples.ensures ∙ e)
-
--- hi is not 0
-some_2 : (c : goal.In-Sum) → hi c.args.h ≡ 0 → ⊥
-some_2 c e = c.if-hi_octave_samples-eq0.false (c.hi_octave_samples.ensures ∙ e)
+use Rattle.body_read.proofs.lengths.is_suited.Goals.{then-stereo+else-right-left, else-stereo+else-right-ne0}
 
 pub returns-then-right-left : goal.returns-then-right-left
 returns-then-right-left c =
@@ -46,22 +20,37 @@ returns-then-right-ne0 c =
     let a = c.args in
     sym (suit_not a.h a.stereo a.left a.right (rw c.if-stereo.false (ne_eqb a.right 0 c.if-right-ne0.true)))
 
+-- Below, `right_is` is that past both tests the right side is as long as it should be.
+
 pub returns-then-hi_octave_samples-eq0 : goal.returns-then-hi_octave_samples-eq0
 returns-then-hi_octave_samples-eq0 c =
     let a = c.args in
+    let right_is : right_suits a.h a.stereo a.left a.right ≡ true = elim c.if-stereo.branch [
+      | then-stereo+else-right-left w ↦ rw w.if-stereo.true (eq-eqb a.right a.left w.if-right-left.false)
+      | else-stereo+else-right-ne0 w ↦ rw w.if-stereo.false (eq-eqb a.right 0 w.if-right-ne0.false)
+    ] in
     let zero : hi a.h ≡ 0 = sym c.hi_octave_samples.ensures ∙ c.if-hi_octave_samples-eq0.true in
-    sym (suit_is a.h a.stereo a.left a.right (right_is c) ∙ rw (eq-eqb (hi a.h) 0 zero))
+    sym (suit_is a.h a.stereo a.left a.right right_is ∙ rw (eq-eqb (hi a.h) 0 zero))
 
 pub returns-in-Refused : goal.returns-in-Refused
 returns-in-Refused c =
     let a = c.args in
+    let right_is : right_suits a.h a.stereo a.left a.right ≡ true = elim c.if-stereo.branch [
+      | then-stereo+else-right-left w ↦ rw w.if-stereo.true (eq-eqb a.right a.left w.if-right-left.false)
+      | else-stereo+else-right-ne0 w ↦ rw w.if-stereo.false (eq-eqb a.right 0 w.if-right-ne0.false)
+    ] in
+    let some : hi a.h ≡ 0 → ⊥ = λ e. c.if-hi_octave_samples-eq0.false (c.hi_octave_samples.ensures ∙ e) in
     let large = total_not a.h _ (sym c.total_samples_per_channel.ensures ∙ c.in-Refused.is) in
     let apart : a.left ≡ total_samples a.h → ⊥ = λ e. omega (arith, large.0, c.ranges.left) in
-    sym (suit_is a.h a.stereo a.left a.right (right_is_2 c) ∙ rw (ne_eqb (hi a.h) 0 (some c), ne_eqb a.left (total_samples a.h) apart))
+    sym (suit_is a.h a.stereo a.left a.right right_is ∙ rw (ne_eqb (hi a.h) 0 some, ne_eqb a.left (total_samples a.h) apart))
 
 pub returns-in-Sum : goal.returns-in-Sum
 returns-in-Sum c =
     let a = c.args in
-    let n = c.in-Sum.total in
-    let is = total_is a.h n (sym c.total_samples_per_channel.ensures ∙ c.in-Sum.is) in
-    sym (suit_is a.h a.stereo a.left a.right (right_is_3 c) ∙ rw (ne_eqb (hi a.h) 0 (some_2 c)) (ap (eqb a.left) is.1))
+    let right_is : right_suits a.h a.stereo a.left a.right ≡ true = elim c.if-stereo.branch [
+      | then-stereo+else-right-left w ↦ rw w.if-stereo.true (eq-eqb a.right a.left w.if-right-left.false)
+      | else-stereo+else-right-ne0 w ↦ rw w.if-stereo.false (eq-eqb a.right 0 w.if-right-ne0.false)
+    ] in
+    let some : hi a.h ≡ 0 → ⊥ = λ e. c.if-hi_octave_samples-eq0.false (c.hi_octave_samples.ensures ∙ e) in
+    let is = total_is a.h c.in-Sum.total (sym c.total_samples_per_channel.ensures ∙ c.in-Sum.is) in
+    sym (suit_is a.h a.stereo a.left a.right right_is ∙ rw (ne_eqb (hi a.h) 0 some) (ap (eqb a.left) is.1))

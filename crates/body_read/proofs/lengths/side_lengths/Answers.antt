@@ -1,23 +1,14 @@
 -- `body_read::lengths::side_lengths` meets its contract: the match says whether the compression is known, and the test how many channels there are.
-use mathlib.Core.Path.{◌≡◌, sym, ap, ◌∙◌}
-use Rattle.header.specs.Compression.{known_compression}
-use Rattle.header.specs.declared.compression.KnownCompression.TheVariants.{Known}
+use mathlib.Core.Path.{sym, ap, ◌∙◌}
 use Rattle.body_read.specs.Answers.{side_lengths_of}
 use Rattle.body_read.proofs.SideLaws.{sides_unknown, sides_two, sides_one}
 use Rattle.body_read.proofs.lengths.side_lengths.Goals as goal
 
--- the compression that is known
-found : (c : goal.After-two_lengths) → known_compression c.args.h.compression_byte ≡ Known c.in-Known.c
-found c = sym c.compression.ensures ∙ c.in-Known.is
-
--- the compression that is known
-found_2 : (c : goal.After-one_length) → known_compression c.args.h.compression_byte ≡ Known c.in-Known.c
-found_2 c = sym c.compression.ensures ∙ c.in-Known.is
-
 pub returns-then-stereo : goal.returns-then-stereo
 returns-then-stereo c =
     let a = c.args in
-    c.two_lengths.ensures ∙ sym (ap side_lengths_of (sides_two a.h a.stereo a.body.now c.in-Known.c (found c) c.if-stereo.true))
+    let found = sym c.compression.ensures ∙ c.in-Known.is in
+    c.two_lengths.ensures ∙ sym (ap side_lengths_of (sides_two a.h a.stereo a.body.now c.in-Known.c found c.if-stereo.true))
 
 pub returns-in-Refused : goal.returns-in-Refused
 returns-in-Refused c =
@@ -27,4 +18,5 @@ returns-in-Refused c =
 pub returns-else-stereo : goal.returns-else-stereo
 returns-else-stereo c =
     let a = c.args in
-    c.one_length.ensures ∙ sym (ap side_lengths_of (sides_one a.h a.stereo a.body.now c.in-Known.c (found_2 c) c.if-stereo.false))
+    let found = sym c.compression.ensures ∙ c.in-Known.is in
+    c.one_length.ensures ∙ sym (ap side_lengths_of (sides_one a.h a.stereo a.body.now c.in-Known.c found c.if-stereo.false))

@@ -4,32 +4,12 @@ use Rattle.drawn.specs.Draw.{next_draw, nth_draw}
 use Rattle.drawn.specs.DrawnVoice.{drawn_header}
 use Rattle.drawn.proofs.plan.plan_of.Goals as goal
 
-pub returns-clause-header : goal.returns-clause-header
+pub returns : goal.returns
 unfolding drawn_header nth_draw
-returns-clause-header c =
+returns c =
     let e1 = c.draw-channels.ensures in
     let e2 = c.draw-octaves.ensures ∙ ap next_draw e1 in
     let e3 = c.draw-one_shot.ensures ∙ ap next_draw e2 in
     let e4 = c.draw-repeat.ensures ∙ ap next_draw e3 in
     let e5 = c.draw-rate.ensures ∙ ap next_draw e4 in
-    (rw (c.one_shot_beside-one_shot_samples.ensures, e5, e4, e3, e2, e1) (refl, (refl, refl))).0
-
-pub returns-clause-stereo : goal.returns-clause-stereo
-unfolding drawn_header nth_draw
-returns-clause-stereo c =
-    let e1 = c.draw-channels.ensures in
-    let e2 = c.draw-octaves.ensures ∙ ap next_draw e1 in
-    let e3 = c.draw-one_shot.ensures ∙ ap next_draw e2 in
-    let e4 = c.draw-repeat.ensures ∙ ap next_draw e3 in
-    let e5 = c.draw-rate.ensures ∙ ap next_draw e4 in
-    (rw (c.one_shot_beside-one_shot_samples.ensures, e5, e4, e3, e2, e1) (refl, (refl, refl))).1
-
-pub returns-clause-last : goal.returns-clause-last
-unfolding drawn_header nth_draw
-returns-clause-last c =
-    let e1 = c.draw-channels.ensures in
-    let e2 = c.draw-octaves.ensures ∙ ap next_draw e1 in
-    let e3 = c.draw-one_shot.ensures ∙ ap next_draw e2 in
-    let e4 = c.draw-repeat.ensures ∙ ap next_draw e3 in
-    let e5 = c.draw-rate.ensures ∙ ap next_draw e4 in
-    (rw (c.one_shot_beside-one_shot_samples.ensures, e5, e4, e3, e2, e1) (refl, (refl, refl))).2
+    record { header = rw (c.one_shot_beside-one_shot_samples.ensures, e5, e4, e3, e2); stereo = rw e1; last = e5 }

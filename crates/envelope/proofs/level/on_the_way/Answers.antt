@@ -15,13 +15,13 @@ module _ (s : goal.After-scaled_wide) where
   level_is = widened w32 w64 tt s.ranges.level
 
   dest_is : to_z w64 (of_z w64 (to_z w32 (of_z w32 s.args.dest))) ≡ s.args.dest
-  dest_is = widened w32 w64 tt s.fits.dest
+  dest_is = widened w32 w64 tt s.ranges.dest
 
   rise_fits : SFits w64 (s.args.dest -ℤ s.args.level)
-  rise_fits = omega (zarith, known s.fits.level, known s.fits.dest, diff s.args.dest s.args.level)
+  rise_fits = omega (zarith, known s.ranges.level, known s.ranges.dest, diff s.args.dest s.args.level)
 
   result_fits : SFits w32 (on_the_way s.args.level s.args.dest s.args.into s.args.d)
-  result_fits = way_fits _ _ _ _ s.fits.level s.fits.dest (omega arith)
+  result_fits = way_fits _ _ _ _ s.ranges.level s.ranges.dest (omega arith)
 
 -- the sum, as the machine reads it back
 sum_is : (c : goal.After-scaled_wide) → to_z w64 (of_z w64 (to_z w32 (of_z w32 c.args.level))) ≡ c.args.level

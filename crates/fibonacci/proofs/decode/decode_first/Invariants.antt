@@ -3,8 +3,6 @@ use mathlib.Core.Path.{◌≡◌}
 use mathlib.Core.List.{◌++◌}
 use Prim.Native.Nat.{◌+◌, ◌-◌, ◌*◌, ◌≤◌}
 use lib.ListN.{length, take, drop}
-use mir.Syntax.{w8}
-use mir.Val.{to_z}
 use Rattle.fibonacci.specs.Decode.{nibbles, running, fib_samples}
 use Rattle.fibonacci.proofs.decode.decode_first.Given as goal
 

@@ -3,8 +3,6 @@ use mathlib.Core.Path.{◌≡◌}
 use mathlib.Core.List.{◌++◌}
 use Prim.Native.Nat.{◌+◌, ◌-◌, ◌*◌, ◌≤◌}
 use lib.ListN.{length, take, drop}
-use mir.Syntax.{w8}
-use mir.Val.{to_z}
 use Rattle.fibonacci.specs.Encode.{picks, packed, fib_bytes}
 use Rattle.fibonacci.proofs.encode.encode_samples.Given as goal
 

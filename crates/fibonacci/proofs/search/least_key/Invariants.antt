@@ -1,8 +1,6 @@
 -- After i turns `least` is the least of the first i keys.
 use mathlib.Core.Path.{◌≡◌}
 use Prim.Native.Nat.{◌-◌, ◌≤◌}
-use mir.Syntax.{w8}
-use mir.Val.{to_z}
 use Rattle.fibonacci.specs.Helpers.{key_at, least_of}
 use Rattle.fibonacci.proofs.search.least_key.Given as goal
 

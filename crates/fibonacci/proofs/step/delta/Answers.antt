@@ -1,9 +1,9 @@
--- The table of the code is that of the definition.
-use mir.Syntax.{w8}
-use Rattle.laws.proofs.Signed.{back}
+-- The table of the code is that of the definition, and each delta fits a signed byte.
+use mir.Facts.{to_z-of_z}
 use Rattle.fibonacci.specs.Step.{deltas}
+use Rattle.fibonacci.proofs.StepLaws.{delta_fits}
 use Rattle.fibonacci.proofs.step.delta.Goals as goal
 
 pub returns : goal.returns
 unfolding deltas
-returns c = back w8 c.result-1.given
+returns c = to_z-of_z (delta_fits c.args.nibble c.requires)

@@ -23,7 +23,6 @@ result_is c =
     back w32 c.fade_by.type_inv
     ∙ c.fade_by.ensures
     ∙ rw (
-      entry,
       back w32 c.scaled.type_inv,
       c.scaled.ensures,
       back w32 c.scaled-at_volume.type_inv,
@@ -36,4 +35,4 @@ result_is c =
 
 pub returns : goal.returns
 returns c =
-    rw (result_is c) (refl, before_sides_fits c.args.g c.args.level c.args.q c.args.sample c.requires.0 c.requires.1 c.requires.2 c.fits.sample)
+    rw (result_is c) (refl, before_sides_fits c.args.g c.args.level c.args.q c.args.sample c.requires.0 c.requires.1 c.requires.2 c.ranges.sample)

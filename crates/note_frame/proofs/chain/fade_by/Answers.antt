@@ -12,7 +12,7 @@ unfolding faded_with
 returns-then-g-q c =
     back w32 c.scaled.type_inv
     ∙ c.scaled.ensures
-    ∙ rw (c.if-g.true, le-leb c.args.g.fade_start c.args.q c.if-g-q.true, to_z-of_z c.fits.x)
+    ∙ rw (c.if-g.true, le-leb c.args.g.fade_start c.args.q c.if-g-q.true, to_z-of_z c.ranges.x)
 
 pub returns-else-g-q : goal.returns-else-g-q
 unfolding faded_with

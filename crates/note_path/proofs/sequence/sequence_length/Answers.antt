@@ -9,14 +9,6 @@ use Rattle.note_path.proofs.LengthLaws.{length_from, from_start, from_none, from
 use Rattle.note_path.proofs.SegmentLaws.{stands_next, segments_same, segments_end, segment_long, stands_past, past_segments}
 use Rattle.note_path.proofs.sequence.sequence_length.Goals as goal
 
--- in a turn: the segment at the place is all there
-long : (c : goal.Else-left-eq0) → c.loop-at.at + 9 ≤ length c.args.segments.now
-long c = segment_long c.args.segments.now c.loop-at.invariant.0 c.loop-at-test.true
-
--- in a turn: the segment at the place is all there
-long_2 : (c : goal.After-capped-sum) → c.loop-at.at + 9 ≤ length c.args.segments.now
-long_2 c = segment_long c.args.segments.now c.loop-at.invariant.0 c.loop-at-test.true
-
 pub loop-at-init : goal.loop-at-init
 loop-at-init c =
     let same = segments_same c.args.segments.now 0 c.next_member-at.ensures in (
@@ -30,11 +22,12 @@ returns-then-left-eq0 c =
     let l = c.loop-at in
     sym (from_none l.sum l.left l.invariant.1 _ c.if-left-eq0.true) ∙ l.invariant.2
 
+-- in a turn the segment at the place is all there
 pub read_segment-s-requires : goal.read_segment-s-requires
-read_segment-s-requires c = omega (arith, long c)
+read_segment-s-requires c = omega (arith, segment_long c.args.segments.now c.loop-at.invariant.0 c.loop-at-test.true)
 
 pub next_member-at-requires-in-loop-at : goal.next_member-at-requires-in-loop-at
-next_member-at-requires-in-loop-at c = long_2 c
+next_member-at-requires-in-loop-at c = segment_long c.args.segments.now c.loop-at.invariant.0 c.loop-at-test.true
 
 pub loop-at-preserved : goal.loop-at-preserved
 loop-at-preserved c =

@@ -6,57 +6,41 @@ use mathlib.Core.List.{List}
 use mathlib.Core.Path.{◌≡◌, sym}
 use native.Mathlib.Omega.{arith}
 use Rattle.chunk.proofs.WriteLaws.{head_end}
-use Rattle.sheet.specs.Record.{records}
+use Rattle.sheet.specs.Read.{leading}
+use Rattle.sheet.specs.Record.{records, body_length}
 use Rattle.sheet_write.proofs.MemberLaws.{members_sized}
 use Rattle.sheet_write.proofs.ZeroLaws.{chunk_zeros}
 use Rattle.sheet_write.specs.RecordChunks.{members_after}
 use Rattle.sheet_write.proofs.group.put_group.Goals as goal
 
--- the members
-abbrev members : (c : goal.After-member_count-m) → List ℕ
-members c = let a = c.args in members_after a.member (records (drop a.from a.sheet.now))
-
--- their length, and that it is small
-sized : (c : goal.After-member_count-m) → (c.member_count-m.result * c.args.n ≡ length (members c)) × (length (members c) < 2 ^ 34)
-sized c =
-    let l = drop c.args.from c.args.sheet.now in
-    let h = members_sized c.args.member l in
-    (rw (members, c.member_count-m.ensures, c.requires.0) (sym h.total), omega (arith, h.inside, length-drop c.args.from c.args.sheet.now))
-
--- their length, and that it is small
-sized_2 : (c : goal.After-put_members-arg-1) → (c.member_count-m.result * c.args.n ≡ length ((let a = c.args in members_after a.member (records (drop a.from a.sheet.now))))) × (length ((let a = c.args in members_after a.member (records (drop a.from a.sheet.now)))) < 2 ^ 34)
-sized_2 c =
-    let l = drop c.args.from c.args.sheet.now in
-    let h = members_sized c.args.member l in
-    (rw (c.member_count-m.ensures, c.requires.0) (sym h.total), omega (arith, h.inside, length-drop c.args.from c.args.sheet.now))
-
--- their length, and that it is small
-sized_3 : (c : goal.After-put_zeros-arg-1) → (c.member_count-m.result * c.args.n ≡ length ((let a = c.args in members_after a.member (records (drop a.from a.sheet.now))))) × (length ((let a = c.args in members_after a.member (records (drop a.from a.sheet.now)))) < 2 ^ 34)
-sized_3 c =
-    let l = drop c.args.from c.args.sheet.now in
-    let h = members_sized c.args.member l in
-    (rw (c.member_count-m.ensures, c.requires.0) (sym h.total), omega (arith, h.inside, length-drop c.args.from c.args.sheet.now))
-
--- their length, and that it is small
-sized_4 : (c : goal.After-slice_known-4-1) → (c.member_count-m.result * c.args.n ≡ length ((let a = c.args in members_after a.member (records (drop a.from a.sheet.now))))) × (length ((let a = c.args in members_after a.member (records (drop a.from a.sheet.now)))) < 2 ^ 34)
-sized_4 c =
-    let l = drop c.args.from c.args.sheet.now in
-    let h = members_sized c.args.member l in
-    (rw (c.member_count-m.ensures, c.requires.0) (sym h.total), omega (arith, h.inside, length-drop c.args.from c.args.sheet.now))
+-- the members' length, and that it is small
+sized : (s : List ℕ) (from member m n : ℕ) → m ≡ length (leading member (records (drop from s))) → n ≡ body_length member → length s < 2 ^ 34
+    → (m * n ≡ length (members_after member (records (drop from s)))) × (length (members_after member (records (drop from s))) < 2 ^ 34)
+sized s from member m n counted long few =
+    let h = members_sized member (drop from s) in
+    (rw (counted, long) (sym h.total), omega (arith, h.inside, length-drop from s))
 
 pub overflow_mul-size : goal.overflow_mul-size
-overflow_mul-size c = omega (arith, (sized c).0, (sized c).1)
+overflow_mul-size c =
+    let w = sized c.args.sheet.now c.args.from c.args.member _ _ c.member_count-m.ensures c.requires.0 c.requires.3 in
+    omega (arith, w.0, w.1)
 
 pub overflow_add-size : goal.overflow_add-size
-overflow_add-size c = omega (arith, (sized c).0, (sized c).1)
+overflow_add-size c =
+    let w = sized c.args.sheet.now c.args.from c.args.member _ _ c.member_count-m.ensures c.requires.0 c.requires.3 in
+    omega (arith, w.0, w.1)
 
 pub put_members-p-requires : goal.put_members-p-requires
-put_members-p-requires c = omega (arith, (sized_2 c).1, head_end _ _ c.put_head-o.ensures)
+put_members-p-requires c =
+    let w = sized c.args.sheet.now c.args.from c.args.member _ _ c.member_count-m.ensures c.requires.0 c.requires.3 in
+    omega (arith, w.1, head_end _ _ c.put_head-o.ensures)
 
 pub put_zeros-requires : goal.put_zeros-requires
 put_zeros-requires c =
-    (omega arith, omega (arith, (sized_3 c).1, head_end _ _ c.put_head-o.ensures, c.put_members-p.ensures.end))
+    let w = sized c.args.sheet.now c.args.from c.args.member _ _ c.member_count-m.ensures c.requires.0 c.requires.3 in
+    (omega arith, omega (arith, w.1, head_end _ _ c.put_head-o.ensures, c.put_members-p.ensures.end))
 
 pub returns : goal.returns
 returns c =
-    chunk_zeros _ _ _ ((let a = c.args in members_after a.member (records (drop a.from a.sheet.now)))) (omega (arith, (sized_4 c).0)) c.put_head-o.ensures c.put_members-p.ensures c.put_zeros.ensures
+    let w = sized c.args.sheet.now c.args.from c.args.member _ _ c.member_count-m.ensures c.requires.0 c.requires.3 in
+    chunk_zeros _ _ _ (members_after c.args.member (records (drop c.args.from c.args.sheet.now))) (omega (arith, w.0)) c.put_head-o.ensures c.put_members-p.ensures c.put_zeros.ensures

@@ -1,96 +1,57 @@
-use Prim.Native.Nat.{◌-◌}
-use lib.ListN.{take, drop}
-use mathlib.Core.List.{◌++◌}
+-- The record in hand is a member, or none is there, and what the laws of MemberLaws make of it.
+use Prim.Native.Nat.{ℕ, ◌+◌, ◌-◌, ◌≤◌}
+use lib.ListN.{length, take, drop}
+use mathlib.Core.List.{List, ◌++◌}
 use mathlib.Core.Path.{◌≡◌, sym, ap, ◌∙◌}
 use native.Mathlib.Omega.{arith}
-use Rattle.laws.proofs.PutLaws.{underway_step, underway_room, underway_done}
+use Rattle.laws.proofs.PutLaws.{Underway, underway_step, underway_room, underway_done}
 use Rattle.laws.specs.Walk.{each}
 use Rattle.sheet.proofs.RecordLaws.{Whole, is_record}
 use Rattle.sheet.specs.Record.{records}
 use Rattle.sheet_write.proofs.MemberLaws.{none_stopped, member_more, member_none}
-use Rattle.sheet_write.proofs.StopLaws.{stopped}
+use Rattle.sheet_write.proofs.StopLaws.{stopped, other_tags}
 use Rattle.sheet_write.specs.RecordChunks.{members_after}
 use Rattle.sheet_write.proofs.group.put_members.Goals as goal
 
--- the record in hand
-whole : (c : goal.Then-kind-member) →
-    let g = (c.in-Record.kind, (c.in-Record.start, (c.in-Record.next, tt))) in
-    Whole c.args.sheet.now c.loop-kind.p g.0 g.1.0 g.1.1.0
-whole c = is_record _ _ _ _ _ (sym c.record_at.ensures ∙ c.in-Record.is)
+-- the body in hand, and the members after it
+turn : {s : List ℕ} {at k start next : ℕ} (m : ℕ) → Whole s at k start next → k ≡ m
+    → members_after m (records (drop at s)) ≡ take (next - start) (drop start s) ++ members_after m (records (drop next s))
+turn m w e = ap (each (λ b. b)) (member_more m w e)
 
--- the record in hand
-whole_2 : (c : goal.Else-kind-member) →
-    let g = (c.in-Record.kind, (c.in-Record.start, (c.in-Record.next, tt))) in
-    Whole c.args.sheet.now c.loop-kind.p g.0 g.1.0 g.1.1.0
-whole_2 c = is_record _ _ _ _ _ (sym c.record_at.ensures ∙ c.in-Record.is)
-
--- the record in hand
-whole_3 : (c : goal.Else-kind-member) →
-    let g = (c.in-Record.kind, (c.in-Record.start, (c.in-Record.next, tt))) in
-    Whole c.args.sheet.now c.loop-kind.p g.0 g.1.0 g.1.1.0
-whole_3 c = is_record _ _ _ _ _ (sym c.record_at.ensures ∙ c.in-Record.is)
-
--- the record in hand
-whole_4 : (c : goal.Else-kind-member) →
-    let g = (c.in-Record.kind, (c.in-Record.start, (c.in-Record.next, tt))) in
-    Whole c.args.sheet.now c.loop-kind.p g.0 g.1.0 g.1.1.0
-whole_4 c = is_record _ _ _ _ _ (sym c.record_at.ensures ∙ c.in-Record.is)
-
--- the record in hand
-whole_5 : (c : goal.After-put_all-arg-in-loop-kind-1) →
-    let g = (c.in-Record.kind, (c.in-Record.start, (c.in-Record.next, tt))) in
-    Whole c.args.sheet.now c.loop-kind.p g.0 g.1.0 g.1.1.0
-whole_5 c = is_record _ _ _ _ _ (sym c.record_at.ensures ∙ c.in-Record.is)
-
--- the record in hand
-whole_6 : (c : goal.After-slice_known-in-loop-kind-1) →
-    let g = (c.in-Record.kind, (c.in-Record.start, (c.in-Record.next, tt))) in
-    Whole c.args.sheet.now c.loop-kind.p g.0 g.1.0 g.1.1.0
-whole_6 c = is_record _ _ _ _ _ (sym c.record_at.ensures ∙ c.in-Record.is)
-
--- the record in hand
-whole_7 : (c : goal.After-slice_known-in-loop-kind-1) →
-    let g = (c.in-Record.kind, (c.in-Record.start, (c.in-Record.next, tt))) in
-    Whole c.args.sheet.now c.loop-kind.p g.0 g.1.0 g.1.1.0
-whole_7 c = is_record _ _ _ _ _ (sym c.record_at.ensures ∙ c.in-Record.is)
-
-turn : (c : goal.After-put_all-arg-in-loop-kind-1) →
-    let a = c.args in
-    members_after a.member (records (drop c.loop-kind.p a.sheet.now)) ≡ (let g = (c.in-Record.kind, (c.in-Record.start, (c.in-Record.next, tt))) in take (g.1.1.0 - g.1.0) (drop g.1.0 c.args.sheet.now)) ++ (let a = c.args in members_after a.member (records (drop c.in-Record.next a.sheet.now)))
-turn c = ap (each (λ b. b)) (member_more _ (whole_5 c) c.if-kind-member.false)
-
-turn_2 : (c : goal.After-slice_known-in-loop-kind-1) →
-    let a = c.args in
-    members_after a.member (records (drop c.loop-kind.p a.sheet.now)) ≡ (let g = (c.in-Record.kind, (c.in-Record.start, (c.in-Record.next, tt))) in take (g.1.1.0 - g.1.0) (drop g.1.0 c.args.sheet.now)) ++ (let a = c.args in members_after a.member (records (drop c.in-Record.next a.sheet.now)))
-turn_2 c = ap (each (λ b. b)) (member_more _ (whole_7 c) c.if-kind-member.false)
+-- the body in hand ends within the whole
+room : {s d₀ all d : List ℕ} {at k start next at₀ o : ℕ} (m : ℕ) → Whole s at k start next → k ≡ m → Underway d₀ at₀ all d o (members_after m (records (drop at s)))
+    → o + length (take (next - start) (drop start s)) ≤ at₀ + length all
+room {s = s} {start = start} {next} m w e u = underway_room (take (next - start) (drop start s)) (members_after m (records (drop next s))) u (turn m w e)
 
 pub returns-in_default : goal.returns-in_default
 returns-in_default c =
-    let a = c.args in
-    let end = stopped a.sheet.now c.loop-kind.p _ c.record_at.ensures c.in_default.keys2 in
-    underway_done c.loop-kind.invariant.0 (ap (each (λ b. b)) (none_stopped a.member end))
+    let end = stopped _ _ _ c.record_at.ensures (other_tags _ c.in_default.not-Record) in
+    underway_done c.loop-kind.invariant.0 (ap (each (λ b. b)) (none_stopped c.args.member end))
 
 pub returns-then-kind-member : goal.returns-then-kind-member
-returns-then-kind-member c = underway_done c.loop-kind.invariant.0 (ap (each (λ b. b)) (member_none _ (whole c) c.if-kind-member.true))
+returns-then-kind-member c =
+    let w = is_record _ _ _ _ _ (sym c.record_at.ensures ∙ c.in-Record.is) in
+    underway_done c.loop-kind.invariant.0 (ap (each (λ b. b)) (member_none _ w c.if-kind-member.true))
 
 pub slice_bounds-put_all-count : goal.slice_bounds-put_all-count
-slice_bounds-put_all-count c = let w = whole_2 c in omega arith
+slice_bounds-put_all-count c = let w = is_record _ _ _ _ _ (sym c.record_at.ensures ∙ c.in-Record.is) in omega arith
 
 pub slice_bounds-put_all-start : goal.slice_bounds-put_all-start
-slice_bounds-put_all-start c = let w = whole_3 c in omega arith
+slice_bounds-put_all-start c = let w = is_record _ _ _ _ _ (sym c.record_at.ensures ∙ c.in-Record.is) in omega arith
 
 pub slice_bounds-put_all-end : goal.slice_bounds-put_all-end
-slice_bounds-put_all-end c = let w = whole_4 c in omega arith
+slice_bounds-put_all-end c = let w = is_record _ _ _ _ _ (sym c.record_at.ensures ∙ c.in-Record.is) in omega arith
 
 pub put_all-o-requires : goal.put_all-o-requires
 put_all-o-requires c =
-    omega (arith, underway_room ((let g = (c.in-Record.kind, (c.in-Record.start, (c.in-Record.next, tt))) in take (g.1.1.0 - g.1.0) (drop g.1.0 c.args.sheet.now))) ((let a = c.args in members_after a.member (records (drop c.in-Record.next a.sheet.now)))) c.loop-kind.invariant.0 (turn c))
+    let w = is_record _ _ _ _ _ (sym c.record_at.ensures ∙ c.in-Record.is) in
+    omega (arith, room c.args.member w c.if-kind-member.false c.loop-kind.invariant.0)
 
 pub loop-kind-smaller : goal.loop-kind-smaller
-loop-kind-smaller c = let w = whole_6 c in omega arith
+loop-kind-smaller c = let w = is_record _ _ _ _ _ (sym c.record_at.ensures ∙ c.in-Record.is) in omega arith
 
 pub loop-kind-preserved : goal.loop-kind-preserved
 loop-kind-preserved c =
+    let w = is_record _ _ _ _ _ (sym c.record_at.ensures ∙ c.in-Record.is) in
     let inv = c.loop-kind.invariant in
-    let put = c.put_all-o in
-    (underway_step _ inv.0 (turn_2 c) put.ensures, put.auto.1.0 ∙ inv.1)
+    (underway_step _ inv.0 (turn c.args.member w c.if-kind-member.false) c.put_all-o.ensures, c.put_all-o.auto.d ∙ inv.1)

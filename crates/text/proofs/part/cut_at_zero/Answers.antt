@@ -1,16 +1,13 @@
 -- The front of the length that `zero_place` finds.
 use lib.Seq.{length-take-le}
-use mathlib.Core.Path.{refl, sym}
+use mathlib.Core.Path.{sym}
 use Rattle.text.proofs.PlaceLaws.{before_zero_part, before_zero_le}
 use Rattle.text.proofs.part.cut_at_zero.Goals as goal
 
-abbrev entry : goal.After-result → goal.After-zero_place-end
-entry c = c.before.before.before
-
 pub slice_bounds-result-end : goal.slice_bounds-result-end
 slice_bounds-result-end c =
-    let s = (entry c).args.s.now in
-    sym (length-take-le _ s (rw (entry, c.zero_place-end.ensures) (before_zero_le s)))
+    let s = c.args.s.now in
+    sym (length-take-le _ s (rw c.zero_place-end.ensures (before_zero_le s)))
 
 pub returns-clause-contents : goal.returns-clause-contents
-returns-clause-contents c = (rw c.zero_place-end.ensures (before_zero_part _, refl)).0
+returns-clause-contents c = rw c.zero_place-end.ensures (before_zero_part _)

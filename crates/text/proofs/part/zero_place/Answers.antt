@@ -1,4 +1,4 @@
-use Prim.Native.Nat.{◌-◌}
+-- The laws of the first zero byte: it stands at the place, or past it, or there is none.
 use mathlib.Core.Path.{sym, ◌∙◌}
 use native.Mathlib.Omega.{arith}
 use Rattle.text.proofs.PlaceLaws.{zero_here, zero_later, zero_end}

@@ -1,4 +1,5 @@
 -- The laws of `code_point` by the number of bytes; sums, products and casts by search.
+use native.Mathlib.Omega.{arith}
 use Rattle.text.proofs.WhiteSpaceLaws.{code_point_of, code_point_none}
 use Rattle.text.specs.WhiteSpace.{code_point}
 use Rattle.text.proofs.white_space.code_point.Goals as goal
@@ -20,4 +21,4 @@ unfolding code_point
 returns-in-4 c = code_point_of 4 c.args.s.now c.in-4.is
 
 pub returns-in_default : goal.returns-in_default
-returns-in_default c = code_point_none _ c.in_default.rest.0.0.0.1 c.in_default.rest.0.0.1 c.in_default.rest.0.1 c.in_default.rest.1
+returns-in_default c = code_point_none _ (omega arith) (omega arith) (omega arith) (omega arith)

@@ -1,7 +1,6 @@
 -- A single code point by computing, a range and the gaps by the laws of WhiteSpaceLaws.
 use borrow.Author.Rules.{rules}
 use mathlib.Core.Path.{refl}
-use native.Mathlib.Nat.{le_of_suc-le-suc}
 use native.Mathlib.Omega.{arith}
 use Rattle.text.proofs.WhiteSpaceLaws.{white_in, not_white, not_white_low, not_white_high}
 use Rattle.text.specs.WhiteSpace.{is_white_space}
@@ -36,26 +35,22 @@ unfolding is_white_space
 returns-in-12288 c = rw c.in-12288.is
 
 pub returns-in-9-to-13 : goal.returns-in-9-to-13
-returns-in-9-to-13 c = white_in _ 0 refl c.if-n-lt9.false (le_of_suc-le-suc c.if-n-lt14.true)
+returns-in-9-to-13 c = white_in _ 0 refl (omega arith) (omega arith)
 
 pub returns-in-8192-to-8202 : goal.returns-in-8192-to-8202
-returns-in-8192-to-8202 c = white_in _ 5 refl c.if-n-lt8192.false (le_of_suc-le-suc c.if-n-lt8203.true)
+returns-in-8192-to-8202 c = white_in _ 5 refl (omega arith) (omega arith)
 
 pub returns-in-8232-to-8233 : goal.returns-in-8232-to-8233
-returns-in-8232-to-8233 c = white_in _ 6 refl c.if-n-lt8232.false (le_of_suc-le-suc c.if-n-lt8234.true)
+returns-in-8232-to-8233 c = white_in _ 6 refl (omega arith) (omega arith)
 
 pub returns-in_default : goal.returns-in_default
 returns-in_default c = not_white _ (search rules)
 
 pub returns-in_default-2 : goal.returns-in_default-2
-returns-in_default-2 c =
-    let r = c.in_default-1.rest in
-    not_white_low _ (omega arith) (omega arith) r.0.0.0.0.0.0.1 r.0.0.0.0.0.1 r.0.0.0.0.1 r.0.0.0.1
+returns-in_default-2 c = not_white_low _ (omega arith) (omega arith) (omega arith) (omega arith) (omega arith) (omega arith)
 
 pub returns-in_default-3 : goal.returns-in_default-3
 returns-in_default-3 c = not_white _ (search rules)
 
 pub returns-in_default-4 : goal.returns-in_default-4
-returns-in_default-4 c =
-    let r = c.in_default-1.rest in
-    not_white_high _ (omega arith) r.0.0.1 r.0.1 r.1
+returns-in_default-4 c = not_white_high _ (omega arith) (omega arith) (omega arith) (omega arith)

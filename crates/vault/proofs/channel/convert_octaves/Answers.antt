@@ -1,65 +1,31 @@
+-- `vault::channel::convert_octaves` meets its contract: where hi = 0 the channel is its only octave, and else it has all of them, one after the other.
+use mathlib.Core.Bool.{true, false}
+use mathlib.Core.List.{List}
 use mathlib.Core.Path.{◌≡◌, refl, sym, ap, ◌∙◌}
-use Prim.Native.Nat.{◌+◌, ◌-◌, ◌≤◌, ◌<◌}
+use Prim.Native.Nat.{ℕ, ◌+◌, ◌-◌, ◌≤◌, ◌<◌}
 use native.Mathlib.Omega.{arith}
+use lib.IntN.{ℤ}
 use lib.ListN.{length, take, drop, length-drop}
 use lib.Seq.{length-take-le}
 use Rattle.header.specs.Octaves.{hi, total_samples}
+use Rattle.header.specs.declared.voice_header.VoiceHeader.{VoiceHeader}
+use Rattle.body_read.specs.Sides.{lengths_suit}
 use Rattle.vault.specs.Helpers.{octave_by}
-use Rattle.vault.proofs.ChannelLaws.{sole_each, suited_all, reached_none, reached_end, reached_next, reached_length, reached_all}
+use Rattle.vault.proofs.ChannelLaws.{Reached, sole_each, suited_all, reached_none, reached_end, reached_next, reached_length, reached_all}
 use Rattle.vault.proofs.BackLaws.{by_length}
 use Rattle.vault.proofs.channel.convert_octaves.Goals as goal
 
-module _ (l : goal.In-loop-at) where
-  some : hi l.args.h ≡ 0 → ⊥
-  some e = l.if-hi_octave_samples-eq0.false (l.hi_octave_samples.ensures ∙ e)
+-- where hi isn't 0, as its reading n says, the channel has all octaves
+module _ (h : VoiceHeader) (channel : List ℤ) (suits : lengths_suit h false (length channel) 0 ≡ true) (n : ℕ) (is : n ≡ hi h) (more : n ≡ 0 → ⊥) where
+  some : hi h ≡ 0 → ⊥
+  some e = more (is ∙ e)
 
-  all : length l.args.channel.now ≡ total_samples l.args.h
-  all = suited_all l.args.h (length l.args.channel.now) l.requires.0 some
+  all : length channel ≡ total_samples h
+  all = suited_all h (length channel) suits some
 
-  end : l.loop-at.at < length l.args.channel.now → l.loop-at.at + (l.loop-at.at + hi l.args.h) ≤ length l.args.channel.now
-  end more = reached_end (octave_by l.args.direction) l.args.h some l.args.channel.now all l.args.out.now l.loop-at.out l.loop-at.at l.loop-at.invariant.2 more
-
-  some_more : 0 < hi l.args.h
-  some_more = omega (arith, some)
-
-module _ (l : goal.After-octave_end-end) where
-  some_2 : hi l.args.h ≡ 0 → ⊥
-  some_2 e = l.if-hi_octave_samples-eq0.false (l.hi_octave_samples.ensures ∙ e)
-
-  all_2 : length l.args.channel.now ≡ total_samples l.args.h
-  all_2 = suited_all l.args.h (length l.args.channel.now) l.requires.0 some_2
-
-  end_2 : l.loop-at.at < length l.args.channel.now → l.loop-at.at + (l.loop-at.at + hi l.args.h) ≤ length l.args.channel.now
-  end_2 more = reached_end (octave_by l.args.direction) l.args.h some_2 l.args.channel.now all_2 l.args.out.now l.loop-at.out l.loop-at.at l.loop-at.invariant.2 more
-
-  some_more_2 : 0 < hi l.args.h
-  some_more_2 = omega (arith, some_2)
-
-module _ (l : goal.After-out-in-loop-at-1) where
-  some_3 : hi l.args.h ≡ 0 → ⊥
-  some_3 e = l.if-hi_octave_samples-eq0.false (l.hi_octave_samples.ensures ∙ e)
-
-  all_3 : length l.args.channel.now ≡ total_samples l.args.h
-  all_3 = suited_all l.args.h (length l.args.channel.now) l.requires.0 some_3
-
-  end_3 : l.loop-at.at < length l.args.channel.now → l.loop-at.at + (l.loop-at.at + hi l.args.h) ≤ length l.args.channel.now
-  end_3 more = reached_end (octave_by l.args.direction) l.args.h some_3 l.args.channel.now all_3 l.args.out.now l.loop-at.out l.loop-at.at l.loop-at.invariant.2 more
-
-  some_more_3 : 0 < hi l.args.h
-  some_more_3 = omega (arith, some_3)
-
-module _ (l : goal.After-loop-at) where
-  some_4 : hi l.args.h ≡ 0 → ⊥
-  some_4 e = l.if-hi_octave_samples-eq0.false (l.hi_octave_samples.ensures ∙ e)
-
-  all_4 : length l.args.channel.now ≡ total_samples l.args.h
-  all_4 = suited_all l.args.h (length l.args.channel.now) l.requires.0 some_4
-
-  end_4 : l.loop-at.at < length l.args.channel.now → l.loop-at.at + (l.loop-at.at + hi l.args.h) ≤ length l.args.channel.now
-  end_4 more = reached_end (octave_by l.args.direction) l.args.h some_4 l.args.channel.now all_4 l.args.out.now l.loop-at.out l.loop-at.at l.loop-at.invariant.2 more
-
-  some_more_4 : 0 < hi l.args.h
-  some_more_4 = omega (arith, some_4)
+  -- before the end the next octave ends within the channel
+  end : (f : List ℤ → List ℤ) (held out : List ℤ) (at : ℕ) → Reached f h channel held out at → at < length channel → at + (at + hi h) ≤ length channel
+  end f held out at r = reached_end f h some channel all held out at r
 
 pub returns-then-hi_octave_samples-eq0 : goal.returns-then-hi_octave_samples-eq0
 returns-then-hi_octave_samples-eq0 c = c.convert_octave.ensures ∙ sym (sole_each (octave_by c.args.direction) c.args.h _ (sym c.hi_octave_samples.ensures ∙ c.if-hi_octave_samples-eq0.true))
@@ -68,29 +34,43 @@ pub loop-at-init : goal.loop-at-init
 loop-at-init c = (omega arith, refl, reached_none (octave_by c.args.direction) c.args.h c.args.channel.now c.args.out.now)
 
 pub octave_end-end-requires : goal.octave_end-end-requires
-octave_end-end-requires c = omega (arith, end c c.loop-at-test.true)
+octave_end-end-requires c =
+    let a = c.args in
+    let l = c.loop-at in
+    omega (arith, end a.h a.channel.now c.requires.0 _ c.hi_octave_samples.ensures c.if-hi_octave_samples-eq0.false _ a.out.now l.out l.at l.invariant.2 c.loop-at-test.true)
 
 pub slice_bounds-convert_octave-end : goal.slice_bounds-convert_octave-end
-slice_bounds-convert_octave-end c = omega (arith, c.octave_end-end.ensures, end_2 c c.loop-at-test.true)
+slice_bounds-convert_octave-end c =
+    let a = c.args in
+    let l = c.loop-at in
+    omega (arith, c.octave_end-end.ensures, end a.h a.channel.now c.requires.0 _ c.hi_octave_samples.ensures c.if-hi_octave_samples-eq0.false _ a.out.now l.out l.at l.invariant.2 c.loop-at-test.true)
 
 pub loop-at-preserved : goal.loop-at-preserved
 loop-at-preserved c =
     let a = c.args in
-    let at = c.loop-at.at in
+    let h = a.h in
+    let channel = a.channel.now in
+    let l = c.loop-at in
+    let at = l.at in
     let ended = c.octave_end-end in
     let more = c.loop-at-test.true in
     let f = octave_by a.direction in
+    let there = some h channel c.requires.0 _ c.hi_octave_samples.ensures c.if-hi_octave_samples-eq0.false in
+    let whole = all h channel c.requires.0 _ c.hi_octave_samples.ensures c.if-hi_octave_samples-eq0.false in
+    let within : at + (at + hi h) ≤ length channel = reached_end f h there channel whole a.out.now l.out at l.invariant.2 more in
     let is = c.convert_octave-in-loop-at.ensures in
     let n = ended.result - at in
-    let octave = take n (drop at a.channel.now) in
-    let octave_long : length octave ≡ n = length-take-le n (drop at a.channel.now) (omega (arith, length-drop at a.channel.now, ended.ensures, end_3 c more)) in
+    let octave = take n (drop at channel) in
+    let octave_long : length octave ≡ n = length-take-le n (drop at channel) (omega (arith, length-drop at channel, ended.ensures)) in
     let long = ap length is ∙ by_length a.direction octave ∙ octave_long in (
-      omega (arith, ended.ensures, end_3 c more),
-      reached_length f a.h (some_3 c) a.channel.now (all_3 c) a.out.now c.loop-at.out at c.loop-at.invariant.2 more c.requires.1 c.loop-at.invariant.1 _ ended.result n ended.ensures refl is long,
-      reached_next f a.h (some_3 c) a.channel.now (all_3 c) a.out.now c.loop-at.out at c.loop-at.invariant.2 more c.requires.1 c.loop-at.invariant.1 _ ended.result n ended.ensures refl is,
+      omega (arith, ended.ensures),
+      reached_length f h there channel whole a.out.now l.out at l.invariant.2 more c.requires.1 l.invariant.1 _ ended.result n ended.ensures refl is long,
+      reached_next f h there channel whole a.out.now l.out at l.invariant.2 more c.requires.1 l.invariant.1 _ ended.result n ended.ensures refl is,
     )
 
 pub returns : goal.returns
 returns c =
     let a = c.args in
-    reached_all (octave_by a.direction) a.h (some_4 c) a.channel.now (all_4 c) a.out.now c.loop-at.out c.loop-at.at c.loop-at.invariant.2 (omega arith) c.requires.1
+    let there = some a.h a.channel.now c.requires.0 _ c.hi_octave_samples.ensures c.if-hi_octave_samples-eq0.false in
+    let whole = all a.h a.channel.now c.requires.0 _ c.hi_octave_samples.ensures c.if-hi_octave_samples-eq0.false in
+    reached_all (octave_by a.direction) a.h there a.channel.now whole a.out.now c.loop-at.out c.loop-at.at c.loop-at.invariant.2 (omega arith) c.requires.1

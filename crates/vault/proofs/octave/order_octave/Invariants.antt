@@ -1,14 +1,19 @@
 -- After i turns each part of `out` holds its first i values, and from `before` and the samples that are left come the differences that are left.
 use mathlib.Core.Path.{◌≡◌}
+use mathlib.Core.List.{List}
 use Prim.Native.Nat.{◌+◌, ◌-◌, ◌≤◌, ◌<◌}
-use lib.IntN.{pos}
+use lib.IntN.{ℤ, pos}
 use lib.ListN.{length, take, drop, get_or}
 use mir.Syntax.{w8}
-use mir.Val.{SFits, to_z}
+use mir.Val.{SFits}
 use Rattle.laws.specs.Turns.{evens, odds}
 use Rattle.vault.specs.DifferenceOrder.{less_before}
 use Rattle.vault.proofs.PartedLaws.{parted}
 use Rattle.vault.proofs.octave.order_octave.Given as goal
+
+-- the values in their order, before they are parted
+abbrev values : List ℤ → List ℤ
+values samples = less_before (pos 0) samples
 
 abbrev pub invariant-loop-i : goal.invariant-loop-i
 invariant-loop-i l =

@@ -5,7 +5,7 @@ use Prim.Native.Nat.{◌+◌, ◌-◌, ◌≤◌, ◌<◌}
 use lib.IntN.{pos}
 use lib.ListN.{length, take, drop, get_or}
 use mir.Syntax.{w8}
-use mir.Val.{SFits, to_z}
+use mir.Val.{SFits}
 use Rattle.vault.specs.DifferenceOrder.{added_to}
 use Rattle.vault.proofs.OctaveLaws.{placed}
 use Rattle.vault.proofs.octave.restore_octave.Given as goal

@@ -10,13 +10,13 @@ use Rattle.sheet.specs.Voice.{is_stereo}
 use Rattle.body_read.specs.Sides.{body_sides}
 use Rattle.voice_read.proofs.chunks.write_outputs.Goals as goal
 
--- the sides, by what was read of the FORM
-sides_are : (c : goal.After-right-1) →
-    let items = items_from c.args.form.now 12 in
-    body_sides c.header_of-h.result c.is_stereo-stereo.result c.body_of.result.now
-    ≡ body_sides (form_voice items).header (is_stereo (form_voice items).channel) (body_of (first_of body items))
-sides_are c = rw (c.header_of-h.ensures, c.is_stereo-stereo.ensures, c.body_of.ensures)
-
+-- `sides_are`: the sides, by what was read of the FORM
 pub returns : goal.returns
 returns c =
-    (put_front c.requires.1 c.put_sheet.ensures, rw (sides_are c) at c.decode_sides.ensures)
+    let items = items_from c.args.form.now 12 in
+    let sides_are
+    : body_sides c.header_of-h.result c.is_stereo-stereo.result c.body_of.result.now
+    ≡ body_sides (form_voice items).header (is_stereo (form_voice items).channel) (body_of (first_of body items))
+    = rw (c.header_of-h.ensures, c.is_stereo-stereo.ensures, c.body_of.ensures) in
+    let sides = rw sides_are at c.decode_sides.ensures in
+    record { sheet = put_front c.requires.1 c.put_sheet.ensures; left = sides.left; right = sides.right }

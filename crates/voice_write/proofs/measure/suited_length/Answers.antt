@@ -17,7 +17,7 @@ returns-then-sheet-ge-TOO_LONG c =
     let a = c.args in
     let v = read_sheet a.sheet.now in
     let k = sides_of a.left.now a.right.now in
-    let e = sound_flat a.sheet.now c.shared_slice_known-1.given c.requires.0 in
+    let e = sound_flat a.sheet.now c.type_inv.sheet c.requires.0 in
     sym (ap length_of (held_long (contents v a.c k) (omega (arith, flat_within v a.c k, ap length e, c.if-sheet-ge-TOO_LONG.true))))
 
 pub returns-then-left-ge-TOO_LONG : goal.returns-then-left-ge-TOO_LONG
@@ -32,33 +32,26 @@ body_length-body-requires c =
     let short = c.if-left-ge-TOO_LONG.false in
     (omega arith, omega (arith, right_within (read_sheet c.args.sheet.now) (sides_of c.args.left.now c.args.right.now) c.requires.1))
 
--- what the FORM holds
-held : (c : goal.Then-held-gt4294967295) →
-    let a = c.args in
-    let n = c.body_length-body.result in
-    12 + c.chunks_length-chunks.result + n + n % 2 ≡ length (contents (read_sheet a.sheet.now) a.c (sides_of a.left.now a.right.now))
-held c =
-    let a = c.args in
-    let body = ap (λ b. length (body_bytes a.c b a.left.now a.right.now)) c.sheet_stereo.ensures in
-    omega (arith, contents_length (read_sheet a.sheet.now) a.c (sides_of a.left.now a.right.now), c.chunks_length-chunks.ensures.0, c.body_length-body.ensures.0, body)
-
--- what the FORM holds
-held_2 : (c : goal.Else-held-gt4294967295) →
-    let a = c.args in
-    let n = c.body_length-body.result in
-    12 + c.chunks_length-chunks.result + n + n % 2 ≡ length (contents (read_sheet a.sheet.now) a.c (sides_of a.left.now a.right.now))
-held_2 c =
-    let a = c.args in
-    let body = ap (λ b. length (body_bytes a.c b a.left.now a.right.now)) c.sheet_stereo.ensures in
-    omega (arith, contents_length (read_sheet a.sheet.now) a.c (sides_of a.left.now a.right.now), c.chunks_length-chunks.ensures.0, c.body_length-body.ensures.0, body)
-
+-- `held`: what the FORM holds
 pub returns-then-held-gt4294967295 : goal.returns-then-held-gt4294967295
 returns-then-held-gt4294967295 c =
     let a = c.args in
-    sym (ap length_of (held_long (contents (read_sheet a.sheet.now) a.c (sides_of a.left.now a.right.now)) (omega (arith, held c, c.if-held-gt4294967295.true))))
+    let v = read_sheet a.sheet.now in
+    let s = sides_of a.left.now a.right.now in
+    let n = c.body_length-body.result in
+    let body = ap (λ b. length (body_bytes a.c b a.left.now a.right.now)) c.sheet_stereo.ensures in
+    let held : 12 + c.chunks_length-chunks.result + n + n % 2 ≡ length (contents v a.c s) =
+    omega (arith, contents_length v a.c s, c.chunks_length-chunks.ensures.0, c.body_length-body.ensures.0, body) in
+    sym (ap length_of (held_long (contents v a.c s) (omega (arith, held, c.if-held-gt4294967295.true))))
 
 pub returns : goal.returns
 returns c =
     let a = c.args in
-    let k = contents (read_sheet a.sheet.now) a.c (sides_of a.left.now a.right.now) in
-    ap Length (omega (arith, held_2 c, file_length k)) ∙ sym (ap length_of (held_fits k (omega (arith, held_2 c, c.if-held-gt4294967295.false))))
+    let v = read_sheet a.sheet.now in
+    let s = sides_of a.left.now a.right.now in
+    let k = contents v a.c s in
+    let n = c.body_length-body.result in
+    let body = ap (λ b. length (body_bytes a.c b a.left.now a.right.now)) c.sheet_stereo.ensures in
+    let held : 12 + c.chunks_length-chunks.result + n + n % 2 ≡ length k =
+    omega (arith, contents_length v a.c s, c.chunks_length-chunks.ensures.0, c.body_length-body.ensures.0, body) in
+    ap Length (omega (arith, held, file_length k)) ∙ sym (ap length_of (held_fits k (omega (arith, held, c.if-held-gt4294967295.false))))

@@ -1,7 +1,6 @@
 -- `header::VoiceHeader::total_samples_per_channel` meets its contract. The factor is 2 ^ octaves - 1, and a product is past
 -- 64 bits if one factor is above the quotient by the other; in over 64 octaves one sample is already too much.
-use Prim.Native.Nat.{ℕ, ◌-◌, ◌*◌, ◌/◌, ◌^◌, ◌<◌}
-use mathlib.Core.Logic.{⊎_elim}
+use Prim.Native.Nat.{ℕ, ◌-◌, ◌*◌, ◌/◌, ◌^◌, ◌≤◌, ◌<◌}
 use mathlib.Core.Path.{◌≡◌, sym, ap, ◌∙◌}
 use native.Mathlib.Omega.{arith}
 use Rattle.header.specs.Octaves.{hi, octaves, total_samples}
@@ -9,6 +8,7 @@ use Rattle.header.specs.declared.voice_header.VoiceHeader.{VoiceHeader}
 use Rattle.header.specs.declared.voice_header.Total.TheVariants.{Sum}
 use Rattle.header.proofs.OctaveLaws.{total_sum, total_large, total_none, many_octaves, ones_high, factor_pos, product, room, no_room}
 use Rattle.header.proofs.voice_header.VoiceHeader.total_samples_per_channel.Goals as goal
+use Rattle.header.proofs.voice_header.VoiceHeader.total_samples_per_channel.Goals.{then-self-eq0, else-self-eq0}
 
 pub returns-then-hi-eq0 : goal.returns-then-hi-eq0
 returns-then-hi-eq0 c = sym (total_none c.args.self (sym c.hi_octave_samples-hi.ensures ∙ c.if-hi-eq0.true))
@@ -18,51 +18,46 @@ returns-then-self-gt64 c =
     let h = c.args.self in
     sym (total_large h (many_octaves h (omega arith) (omega arith)))
 
+-- the factor that the code makes of the number of octaves is the total's other factor
+factor_is : (h : VoiceHeader) (k : ℕ) → h.ct_octave ≤ 64 → k ≡ octaves h → (2 ^ 64 - 1) / 2 ^ (64 - k) ≡ 2 ^ octaves h - 1
+factor_is h k few is = ones_high 64 k (omega arith) ∙ ap (λ (x : ℕ). 2 ^ x - 1) is
+
+pub overflow_sub-factor : goal.overflow_sub-factor
+overflow_sub-factor c = elim c.if-self-eq0.branch [ then-self-eq0 w ↦ omega arith | else-self-eq0 w ↦ omega arith ]
+
+pub overflow_shr-factor : goal.overflow_shr-factor
+overflow_shr-factor c = elim c.if-self-eq0.branch [ then-self-eq0 w ↦ omega arith | else-self-eq0 w ↦ omega arith ]
+
+pub nonzero_div-factor : goal.nonzero_div-factor
+nonzero_div-factor c =
+    let is : c.if-self-eq0.octaves ≡ octaves c.args.self = elim c.if-self-eq0.branch [ then-self-eq0 w ↦ omega arith | else-self-eq0 w ↦ omega arith ] in
+    factor_pos c.args.self _ _ c.hi_octave_samples-hi.ensures (factor_is c.args.self _ c.if-self-gt64.false is)
+
+pub returns-then-factor-hi : goal.returns-then-factor-hi
+returns-then-factor-hi c =
+    let is : c.if-self-eq0.octaves ≡ octaves c.args.self = elim c.if-self-eq0.branch [ then-self-eq0 w ↦ omega arith | else-self-eq0 w ↦ omega arith ] in
+    let factor = factor_is c.args.self _ c.if-self-gt64.false is in
+    sym (total_large _ (no_room c.args.self _ _ c.hi_octave_samples-hi.ensures factor c.if-factor-hi.true))
+
 -- hi times the factor is the total, which is within 64 bits
 record Within (h : VoiceHeader) (n : ℕ) : Type 0 where
   is : n ≡ total_samples h
   fits : total_samples h < 2 ^ 64
 
-known : (c : goal.Then-factor-hi) → Known (c.args.self) (c.hi_octave_samples-hi.result) (c.if-self-eq0.octaves) ((2 ^ 64 - 1) / 2 ^ (64 - c.if-self-eq0.octaves))
-known c =
-    let is : c.if-self-eq0.octaves ≡ octaves (c.args.self) = ⊎_elim (λ w. omega arith) (λ w. omega arith) c.if-self-eq0.branch in
-    let length = c.hi_octave_samples-hi.ensures in
-    let factor = ones_high 64 (c.if-self-eq0.octaves) (omega arith) ∙ ap (λ (x : ℕ). 2 ^ x - 1) is in
-    record {
-      length = length;
-      some = omega arith;
-      few = omega arith;
-      factor = factor;
-      positive = factor_pos (c.args.self) _ _ length factor;
-    }
+within : (h : VoiceHeader) (n k : ℕ) → h.ct_octave ≤ 64 → n ≡ hi h → k ≡ octaves h → n ≤ (2 ^ 64 - 1) / ((2 ^ 64 - 1) / 2 ^ (64 - k))
+    → Within h (n * ((2 ^ 64 - 1) / 2 ^ (64 - k)))
+within h n k few length is below =
+    let factor = factor_is h k few is in
+    record { is = product h _ _ length factor; fits = room h _ _ length factor below }
 
-known_2 : (c : goal.Else-factor-hi) → Known (c.args.self) (c.hi_octave_samples-hi.result) (c.if-self-eq0.octaves) ((2 ^ 64 - 1) / 2 ^ (64 - c.if-self-eq0.octaves))
-known_2 c =
-    let is : c.if-self-eq0.octaves ≡ octaves (c.args.self) = ⊎_elim (λ w. omega arith) (λ w. omega arith) c.if-self-eq0.branch in
-    let length = c.hi_octave_samples-hi.ensures in
-    let factor = ones_high 64 (c.if-self-eq0.octaves) (omega arith) ∙ ap (λ (x : ℕ). 2 ^ x - 1) is in
-    record {
-      length = length;
-      some = omega arith;
-      few = omega arith;
-      factor = factor;
-      positive = factor_pos (c.args.self) _ _ length factor;
-    }
-
-pub returns-then-factor-hi : goal.returns-then-factor-hi
-returns-then-factor-hi c =
-    let k = known c in
-    sym (total_large _ (no_room _ _ _ k.length k.factor c.if-factor-hi.true))
-
-within : (c : goal.Else-factor-hi) → Within (c.args.self) (c.hi_octave_samples-hi.result * ((2 ^ 64 - 1) / 2 ^ (64 - c.if-self-eq0.octaves)))
-within c =
-    let k = known c in
-    record { is = product _ _ _ k.length k.factor; fits = room _ _ _ k.length k.factor c.if-factor-hi.false }
-
-within_2 : (c : goal.Else-factor-hi) → Within (c.args.self) (c.hi_octave_samples-hi.result * ((2 ^ 64 - 1) / 2 ^ (64 - c.if-self-eq0.octaves)))
-within_2 c =
-    let k = known_2 c in
-    record { is = product _ _ _ k.length k.factor; fits = room _ _ _ k.length k.factor c.if-factor-hi.false }
+pub overflow_mul-sum : goal.overflow_mul-sum
+overflow_mul-sum c =
+    let is : c.if-self-eq0.octaves ≡ octaves c.args.self = elim c.if-self-eq0.branch [ then-self-eq0 w ↦ omega arith | else-self-eq0 w ↦ omega arith ] in
+    let w = within c.args.self _ _ c.if-self-gt64.false c.hi_octave_samples-hi.ensures is c.if-factor-hi.false in
+    omega (arith, w.is, w.fits)
 
 pub returns : goal.returns
-returns c = ap Sum (within_2 c).is ∙ sym (total_sum _ (within_2 c).ranges)
+returns c =
+    let is : c.if-self-eq0.octaves ≡ octaves c.args.self = elim c.if-self-eq0.branch [ then-self-eq0 w ↦ omega arith | else-self-eq0 w ↦ omega arith ] in
+    let w = within c.args.self _ _ c.if-self-gt64.false c.hi_octave_samples-hi.ensures is c.if-factor-hi.false in
+    ap Sum w.is ∙ sym (total_sum _ w.fits)
