@@ -1,4 +1,3 @@
-use Prim.Native.Nat.{◌-◌}
 use mathlib.Core.Path.{◌∙◌}
 use native.Mathlib.Omega.{arith}
 use Rattle.sheet_layout.proofs.StretchLaws.{starts_past, starts_own, starts_other, run_open, run_member, run_end}

@@ -2,7 +2,9 @@
 use Prim.Native.Nat.{ℕ, ◌<◌, ◌^◌}
 use mathlib.Core.Bool.{Bool, cond}
 use mathlib.Core.Path.{◌≡◌, ap, ◌∙◌}
-use lib.IntN.{ℤ}
+use lib.IntN.{ℤ, pos}
+use lib.ListN.{get_or}
+use borrow.Author.Rules.{rules}
 use lib.Signed.{mag}
 use mir.Syntax.{w8, w16, w32}
 use mir.Val.{hbits, to_z, of_z}
@@ -22,13 +24,13 @@ returns-then-g c =
     let a = c.args in
     sounding a.g a.left.now a.right.now a.q a.i a.level a.right.now
     (ap (λ (t : Bool). cond t a.right.now a.left.now) c.if-g.true) _ _
-    (value_is _ _ _ _ _ (value_read a.g a.level a.q _ c.before_sides-l.type_inv (c.type_inv.left a.i) c.before_sides-l.ensures.0) (back w16 c.on_side.type_inv ∙ c.on_side.ensures))
-    (value_is _ _ _ _ _ (value_read a.g a.level a.q _ c.before_sides-r.type_inv (c.type_inv.right a.i) c.before_sides-r.ensures.0) (back w16 c.on_side-then-g.type_inv ∙ c.on_side-then-g.ensures))
+    (value_is _ _ _ _ _ (value_read a.g a.level a.q (get_or a.left.now a.i (pos 0)) c.before_sides-l.type_inv (search rules) c.before_sides-l.ensures.0) (back w16 c.on_side.type_inv ∙ c.on_side.ensures))
+    (value_is _ _ _ _ _ (value_read a.g a.level a.q (get_or a.right.now a.i (pos 0)) c.before_sides-r.type_inv (search rules) c.before_sides-r.ensures.0) (back w16 c.on_side-then-g.type_inv ∙ c.on_side-then-g.ensures))
 
 pub returns : goal.returns
 returns c =
     let a = c.args in
-    let l = value_read a.g a.level a.q _ c.before_sides-l.type_inv (c.type_inv.left a.i) c.before_sides-l.ensures.0 in
+    let l = value_read a.g a.level a.q (get_or a.left.now a.i (pos 0)) c.before_sides-l.type_inv (search rules) c.before_sides-l.ensures.0 in
     sounding a.g a.left.now a.right.now a.q a.i a.level a.left.now
     (ap (λ (t : Bool). cond t a.right.now a.left.now) c.if-g.false) _ _
     (value_is _ _ _ _ _ l (back w16 c.on_side-2.type_inv ∙ c.on_side-2.ensures))
