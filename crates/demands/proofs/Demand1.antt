@@ -44,7 +44,8 @@ use Rattle.voice_write.specs.WriteVoice.{write_sheet}
 use Rattle.wave.specs.Wave.{octave_wave_of}
 use Rattle.vault.specs.DifferenceOrder.{octave_order, octave_restored, each_octave, channel_rules, by_octave, difference_order, difference_restore}
 use Rattle.drawn.specs.DrawnVoice.{drawn}
-use Rattle.demands.specs.Demand1.{reading_numbers, writing_numbers, body_numbers, side_numbers, channel_numbers, fill_numbers, wave_numbers, vault_numbers, drawn_numbers, FillsOrKeeps, Demand1}
+use Rattle.demands.specs.Demand1.{reading_numbers, writing_numbers, body_numbers, side_numbers, channel_numbers, fill_numbers, wave_numbers, vault_numbers, FillsOrKeeps, Demand1}
+use Rattle.demands.specs.DrawnVoices.{drawn_numbers, DrawnRefused}
 use Rattle.demands.proofs.NumberLaws.{one_of, Within, by_test, rules_within, refused_by}
 use Rattle.demands.proofs.FirstNumbers.{refused_record}
 use Rattle.demands.proofs.DecodeNumbers.{channel_within, body_within}
@@ -142,11 +143,6 @@ vault_within : (f : List ℤ → List ℤ) (h : VoiceHeader) (channel : List ℤ
 unfolding by_octave
 vault_within f h channel = rules_within vault_numbers (channel_rules h (length channel)) (each_octave f h channel) tt
 
--- a drawn voice, by its number alone
-drawn_within : (number : ℕ) → Within drawn_numbers (drawn number)
-unfolding drawn
-drawn_within number = by_test (Within drawn_numbers) (eqb number 0) (inl refl) tt
-
 -- ---- the demand
 
 pub demand1 : Demand1
@@ -161,7 +157,6 @@ demand1 = record {
   octave_wave_lem = λ sheet sides k. fills_or_keeps wave_numbers (octave_wave_of sheet sides k) (wave_within sheet sides k);
   difference_order_lem = λ h samples. fills_or_keeps vault_numbers (difference_order h samples) (vault_within octave_order h samples);
   difference_restore_lem = λ h values. fills_or_keeps vault_numbers (difference_restore h values) (vault_within octave_restored h values);
-  drawn_voice = λ number b n. reading_or_keeps drawn_numbers (drawn number) b n (drawn_within number);
   decode_body = λ byte channels frames body. fills_or_keeps body_numbers (decoded_body byte channels frames body) (body_within byte channels frames body);
   fibonacci_decode_channel = λ body. fills_or_keeps channel_numbers (fib_channel body) (channel_within channel_numbers (one_of channel_numbers channel_short tt) body);
   fibonacci_encode_channel = λ samples. fills_or_keeps [] (gives (fib_bytes samples)) tt;
@@ -185,3 +180,11 @@ demand1 = record {
   mix = mix_or_keeps;
   make_calls = made_or_keeps;
 }
+
+-- a drawn voice, by its number alone
+drawn_within : (number : ℕ) → Within drawn_numbers (drawn number)
+unfolding drawn
+drawn_within number = by_test (Within drawn_numbers) (eqb number 0) (inl refl) tt
+
+pub drawn_refused : DrawnRefused
+drawn_refused = record { drawn_voice = λ number b n. reading_or_keeps drawn_numbers (drawn number) b n (drawn_within number) }

@@ -9,7 +9,7 @@ use Rattle.refusal.specs.Numbers.{file_short, not_form, not_8svx, chunk_past_for
 use Rattle.refusal.specs.Numbers.{compression, odd_halves, channel_short, octave_total, samples_short}
 use Rattle.refusal.specs.Numbers.{record_cut, record_wrong, text_ill_formed, sample_lengths, form_length, buffer_short}
 use Rattle.refusal.specs.Numbers.{segment, sequence_one_shot, fade_segment, sequence_length, odd_places, no_octave, step, rate, key_up, voice_rate, no_crossing, velocity}
-use Rattle.refusal.specs.Numbers.{start_order, entry_count, early_key_up, zero_number}
+use Rattle.refusal.specs.Numbers.{start_order, entry_count, early_key_up}
 use Rattle.refusal.specs.Outcome.{Outcome, gives, refuses, answer, length_of, buffer_after}
 use Rattle.refusal.specs.declared.Output.TheVariants as Output
 use Rattle.field.specs.Signed.{sample_of, byte_of}
@@ -54,7 +54,6 @@ use Rattle.voice_read.specs.declared.chunks.Parsed.TheVariants as Parsed
 use Rattle.voice_write.specs.WriteVoice.{write_sheet}
 use Rattle.wave.specs.Wave.{octave_wave_of}
 use Rattle.vault.specs.DifferenceOrder.{difference_order, difference_restore}
-use Rattle.drawn.specs.DrawnVoice.{after_drawing}
 use Rattle.ensemble_score.specs.declared.Entry.{Entry}
 use Rattle.ensemble.specs.Mix.{after_mix}
 use Rattle.ensemble.specs.declared.Mixed.TheVariants as Mixed
@@ -111,10 +110,6 @@ mix_numbers =
 abbrev pub vault_numbers : List ℕ
 vault_numbers = octave_total ∷ sample_lengths ∷ []
 
--- drawing a voice: 48
-abbrev pub drawn_numbers : List ℕ
-drawn_numbers = zero_number ∷ []
-
 -- one record of a sheet: 15, 16
 abbrev pub record_numbers : List ℕ
 record_numbers = record_cut ∷ record_wrong ∷ []
@@ -148,8 +143,6 @@ pub record Demand1 : Type 0 where
   pub difference_order_lem : (h : VoiceHeader) (samples : List ℤ) → FillsOrKeeps vault_numbers (difference_order h samples)
   -- difference_restore too
   pub difference_restore_lem : (h : VoiceHeader) (values : List ℤ) → FillsOrKeeps vault_numbers (difference_restore h values)
-  -- drawn_voice is refused by 48 or 20, and then sheet, left and right are as they were
-  pub drawn_voice : (number : ℕ) (b : Lent) (n : ℕ) → (after_drawing number b).parsed ≡ Parsed.Refused n → Among n (buffer_short ∷ drawn_numbers) × ((after_drawing number b).buffers ≡ b)
   -- decode_body is refused by 10, 11, 12 or 20, and then its buffer is as it was
   pub decode_body : (byte channels frames : ℕ) (body : List ℕ) → FillsOrKeeps body_numbers (decoded_body byte channels frames body)
   -- fibonacci_decode_channel is refused by 12 or 20, and then its buffer is as it was

@@ -1,14 +1,17 @@
--- Voices drawn from numbers: the writer accepts every one of them, and the reader gives it back. It is proved as `drawn_voices`. What the code
+-- Voices drawn from numbers: the writer accepts every one of them, and the reader gives it back, which is proved as `drawn_voices`. By which numbers
+-- drawing is refused, and that a refused one leaves its buffers as they were, is proved as `drawn_refused`. What the code
 -- does comes in by three names, which are what the contracts say: `after_drawing` (drawn_voice), `write_sheet` (encode_voice) and
 -- `after_reading` (parse_voice).
-use Rattle.std.specs.Prelude.{ℕ, ◌≤◌, ◌<◌, List, ◌≡◌, length, take}
+use Rattle.std.specs.Prelude.{ℕ, ◌≤◌, ◌<◌, List, [], ◌∷◌, ◌≡◌, length, take}
+use Rattle.laws.specs.Among.{Among}
+use Rattle.refusal.specs.Numbers.{zero_number, buffer_short}
 use Rattle.refusal.specs.Outcome.{gives}
 use Rattle.sheet.specs.Flat.{flat}
 use Rattle.body_read.specs.Sides.{Sides}
 use Rattle.voice_read.specs.Parsed.{Lent, after_reading}
 use Rattle.voice_read.specs.ReadVoice.{Reading, read_voice}
 use Rattle.voice_read.specs.declared.chunks.Lengths.{Lengths}
-use Rattle.voice_read.specs.declared.chunks.Parsed.TheVariants.{Voice}
+use Rattle.voice_read.specs.declared.chunks.Parsed.TheVariants.{Voice, Refused}
 use Rattle.voice_write.specs.WriteVoice.{write_sheet}
 use Rattle.drawn.specs.DrawnVoice.{drawn, after_drawing}
 use Rattle.demands.specs.Demand3.{sheet_read, sides_read}
@@ -49,3 +52,11 @@ pub record DrawnVoices : Type 0 where
   pub accepted : (number : ℕ) (b : Lent) → 0 < number → RoomFor (record { sheet = 23; left = 1890; right = 1890 }) b → (l : Lengths) × ((after_drawing number b).parsed ≡ Voice l)
   -- and what an accepted drawing left comes back
   pub left : (number : ℕ) (b : Lent) (l : Lengths) → (after_drawing number b).parsed ≡ Voice l → LeftComesBack number b l
+
+-- drawing a voice: 48
+abbrev pub drawn_numbers : List ℕ
+drawn_numbers = zero_number ∷ []
+
+-- drawn_voice is refused by 48 or 20, and then sheet, left and right are as they were
+pub record DrawnRefused : Type 0 where
+  pub drawn_voice : (number : ℕ) (b : Lent) (n : ℕ) → (after_drawing number b).parsed ≡ Refused n → Among n (buffer_short ∷ drawn_numbers) × ((after_drawing number b).buffers ≡ b)

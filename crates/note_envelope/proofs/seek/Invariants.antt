@@ -2,8 +2,6 @@
 -- for the same levels as the place where the loop began.
 use Prim.Native.Nat.{◌-◌}
 use lib.ListN.{length}
-use mir.Syntax.{w32}
-use mir.Val.{to_z}
 use Rattle.note_envelope.proofs.CursorLaws.{Passed}
 use Rattle.note_envelope.proofs.seek.Given as goal
 

@@ -1,6 +1,6 @@
 -- `octaves::octave_parts::octave_part` meets its contract. 2 ^ k is within 64 bits; the octave's end is hi × (2 × 2 ^ k - 1), and it is
 -- past the samples if hi is above their quotient by the other factor. From k = 64 on, one sample in octave 0 is already too much.
-use Prim.Native.Nat.{ℕ, ◌+◌, ◌-◌, ◌*◌, ◌%◌, ◌^◌, ◌≤◌, ◌<◌}
+use Prim.Native.Nat.{ℕ, ◌-◌, ◌*◌, ◌%◌, ◌^◌, ◌≤◌, ◌<◌}
 use mathlib.Core.Path.{◌≡◌, sym, ap₂, ◌∙◌}
 use native.Mathlib.Nat.{mul-le-mul}
 use native.Mathlib.Omega.{arith}

@@ -40,8 +40,8 @@ returns-then-out-n c =
     let f = octave_by a.direction in
     let none = sym c.channel_refusal-number.ensures ∙ c.if-number-ne0.false in
     let short =
-        outcome_short (by_octave f a.h a.channel.now) a.out.now (each_octave f a.h a.channel.now) (by_gives f a.h a.channel.now (sym none))
-        (length a.channel.now) (long a.direction a.h a.channel.now none) c.if-out-n.true
+    outcome_short (by_octave f a.h a.channel.now) a.out.now (each_octave f a.h a.channel.now) (by_gives f a.h a.channel.now (sym none))
+    (length a.channel.now) (long a.direction a.h a.channel.now none) c.if-out-n.true
     in
     record { result = short.0; buffer = short.1 }
 
@@ -60,7 +60,7 @@ returns c =
     let as_long = long a.direction a.h a.channel.now none in
     let rest = drop (length a.channel.now) a.out.now in
     let fits =
-        outcome_fits (by_octave f a.h a.channel.now) a.out.now done (by_gives f a.h a.channel.now (sym none)) (length a.channel.now) as_long
-        (c.convert_octaves.new.out ++ rest) (omega arith) (rw (← as_long) (ap (λ (l : List ℤ). l ++ rest) c.convert_octaves.ensures))
+    outcome_fits (by_octave f a.h a.channel.now) a.out.now done (by_gives f a.h a.channel.now (sym none)) (length a.channel.now) as_long
+    (c.convert_octaves.new.out ++ rest) (omega arith) (rw (← as_long) (ap (λ (l : List ℤ). l ++ rest) c.convert_octaves.ensures))
     in
     record { result = fits.0; buffer = fits.1 }

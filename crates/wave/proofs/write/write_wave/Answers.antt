@@ -77,8 +77,8 @@ overflow_cast-values c =
     let s : Sides = record { left = a.left.now; right = a.right.now } in
     let f = writes a.sheet.now s a.k a.n (length a.file.now) c.requires in
     let count =
-        counted v s a.k _ _ _ _ c.sheet_header-h.ensures c.sheet_stereo-stereo.ensures c.octave-lefts.ensures.contents c.octave-rights.ensures.contents
-        _ c.values_length-values.ensures
+    counted v s a.k _ _ _ _ c.sheet_header-h.ensures c.sheet_stereo-stereo.ensures c.octave-lefts.ensures.contents c.octave-rights.ensures.contents
+    _ c.values_length-values.ensures
     in
     record { fits = omega (arith, f.fits, count) }
 
@@ -108,7 +108,7 @@ put_pad-requires c =
     let s : Sides = record { left = a.left.now; right = a.right.now } in
     let f = writes a.sheet.now s a.k a.n (length a.file.now) c.requires in
     let as_long =
-        long v s a.k _ _ _ _ c.sheet_header-h.ensures c.sheet_stereo-stereo.ensures c.octave-lefts.ensures.contents c.octave-rights.ensures.contents f.same
+    long v s a.k _ _ _ _ c.sheet_header-h.ensures c.sheet_stereo-stereo.ensures c.octave-lefts.ensures.contents c.octave-rights.ensures.contents f.same
     in
     let front_end : c.put_front-begun.result ≡ 44 = put_end (front_length _ _ _ _) c.put_front-begun.ensures in
     omega (arith, c.put_values-end.ensures.end, front_end, as_long, f.fits)
