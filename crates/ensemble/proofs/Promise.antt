@@ -15,7 +15,6 @@ use Rattle.refusal.proofs.RuleLaws.{none_holds, first_holds}
 use Rattle.sheet.specs.Judge.{judged}
 use Rattle.sheet.specs.Read.{read_sheet}
 use Rattle.sheet.specs.declared.judge.Judged.{Judged}
-use Rattle.sheet.specs.declared.judge.Judged.TheVariants as Judged
 use Rattle.body_read.specs.Sides.{Sides}
 use Rattle.note_frame.specs.declared.chain.Frame.{Frame}
 use Rattle.ensemble_score.specs.declared.Entry.{Entry}

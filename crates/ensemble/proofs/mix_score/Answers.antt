@@ -1,5 +1,5 @@
 -- `ensemble::mix_score` meets its contract: the score's own rules decide, then the sheet's verdict.
-use Prim.Native.Nat.{ℕ, ◌≤◌}
+use Prim.Native.Nat.{ℕ}
 use mathlib.Core.List.{List}
 use mathlib.Core.Path.{◌≡◌, sym, ap, ◌∙◌}
 use native.Mathlib.Omega.{arith}
@@ -16,7 +16,6 @@ use Rattle.ensemble_score.specs.declared.Score.{Score}
 use Rattle.ensemble_score.proofs.ScoreLaws.{listed_is}
 use Rattle.ensemble_rules.specs.Rules.{score_rules}
 use Rattle.ensemble.specs.Mix.{MixResult, mix_voice, mix_sheet, mix_leaves}
-use Rattle.ensemble.specs.declared.Mixed.{Mixed}
 use Rattle.ensemble.specs.declared.Mixed.TheVariants.{Refused}
 use Rattle.ensemble.proofs.AcceptedLaws.{entries, few_entries, same_first}
 use Rattle.ensemble.proofs.MixLaws.{by_score, by_sheet, by_voice}

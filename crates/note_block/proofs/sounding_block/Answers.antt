@@ -1,10 +1,8 @@
 -- `note_block::sounding_block` meets its contract: path and gains are the voice's, and `play_stage` plays them.
-use Prim.Native.Nat.{ℕ, ◌≤◌, ◌<◌, ◌^◌}
+use Prim.Native.Nat.{◌≤◌, ◌<◌, ◌^◌}
 use native.Mathlib.Omega.{arith}
 use borrow.Author.Rules.{rules}
-use lib.ListN.{length, get_or}
-use mir.Syntax.{w8}
-use mir.Val.{Fits}
+use lib.ListN.{length}
 use Rattle.note_block.proofs.SheetLaws.{places_are}
 use Rattle.note_block.proofs.BeginLaws.{path_asks, gains_ask, block_ready}
 use Rattle.note_block.proofs.sounding_block.Goals as goal

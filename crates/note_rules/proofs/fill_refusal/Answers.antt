@@ -57,9 +57,9 @@ returns-then-of_octave-ne0 c =
     let e = c.octave_refusal-of_octave.ensures in
     e
     ∙ sym (
-      sequence_passed v a.left a.right a.n a.frames a.places no_voice no_sequence
-      ∙ first_stands (octave_rules v a.n.octave) _ (λ none. c.if-of_octave-ne0.true (e ∙ none))
-      )
+    sequence_passed v a.left a.right a.n a.frames a.places no_voice no_sequence
+    ∙ first_stands (octave_rules v a.n.octave) _ (λ none. c.if-of_octave-ne0.true (e ∙ none))
+    )
 
 pub returns-then-of_places-ne0 : goal.returns-then-of_places-ne0
 returns-then-of_places-ne0 c =
@@ -71,9 +71,9 @@ returns-then-of_places-ne0 c =
     let e = c.places_refusal-of_places.ensures in
     e
     ∙ sym (
-      octave_passed v a.left a.right a.n a.frames a.places no_voice no_sequence no_octave
-      ∙ first_stands (place_rules a.places) _ (λ none. c.if-of_places-ne0.true (e ∙ none))
-      )
+    octave_passed v a.left a.right a.n a.frames a.places no_voice no_sequence no_octave
+    ∙ first_stands (place_rules a.places) _ (λ none. c.if-of_places-ne0.true (e ∙ none))
+    )
 
 pub returns : goal.returns
 returns c =
@@ -86,6 +86,6 @@ returns c =
     c.note_refusal.ensures
     ∙ ap (λ h. first_holding (note_rules h a.n a.frames)) c.sheet_header-h.ensures
     ∙ sym (
-      octave_passed v a.left a.right a.n a.frames a.places no_voice no_sequence no_octave
-      ∙ first_join (place_rules a.places) _ (places_numbered a.places) even
-      )
+    octave_passed v a.left a.right a.n a.frames a.places no_voice no_sequence no_octave
+    ∙ first_join (place_rules a.places) _ (places_numbered a.places) even
+    )

@@ -1,5 +1,5 @@
 -- `drawn::plan::plan_of` meets its contract: each of the five draws follows the one before it.
-use mathlib.Core.Path.{refl, ap, ◌∙◌}
+use mathlib.Core.Path.{ap, ◌∙◌}
 use Rattle.drawn.specs.Draw.{next_draw, nth_draw}
 use Rattle.drawn.specs.DrawnVoice.{drawn_header}
 use Rattle.drawn.proofs.plan.plan_of.Goals as goal

@@ -67,10 +67,10 @@ returns-in-NoFade c =
     let v = read_sheet c.args.sheet.now in
     -- volume, velocity and shares
     let plain =
-        unfaded_is v _ c.args.velocity c.side_shares-s.result _
-        (c.full_volume.ensures ∙ ap (λ h. min h.volume 65536) c.sheet_header-h.ensures)
-        (c.side_shares-s.ensures ∙ shares_answered v.channel v.pan _ _ c.sheet_channel.ensures c.sheet_pan.ensures)
-        c.sheet_stereo.ensures
+    unfaded_is v _ c.args.velocity c.side_shares-s.result _
+    (c.full_volume.ensures ∙ ap (λ h. min h.volume 65536) c.sheet_header-h.ensures)
+    (c.side_shares-s.ensures ∙ shares_answered v.channel v.pan _ _ c.sheet_channel.ensures c.sheet_pan.ensures)
+    c.sheet_stereo.ensures
     in
     plain ∙ sym (gains_unfaded v c.args.k c.args.velocity (no_fade v.fade (sym c.sheet_fade-fade.ensures ∙ c.in-NoFade.is)))
 
@@ -79,10 +79,10 @@ returns-in-Fades c =
     let sheet = c.args.sheet.now in
     let v = read_sheet sheet in
     let plain =
-        unfaded_is v _ c.args.velocity c.side_shares-s.result _
-        (c.full_volume.ensures ∙ ap (λ h. min h.volume 65536) c.sheet_header-h.ensures)
-        (c.side_shares-s.ensures ∙ shares_answered v.channel v.pan _ _ c.sheet_channel.ensures c.sheet_pan.ensures)
-        c.sheet_stereo.ensures
+    unfaded_is v _ c.args.velocity c.side_shares-s.result _
+    (c.full_volume.ensures ∙ ap (λ h. min h.volume 65536) c.sheet_header-h.ensures)
+    (c.side_shares-s.ensures ∙ shares_answered v.channel v.pan _ _ c.sheet_channel.ensures c.sheet_pan.ensures)
+    c.sheet_stereo.ensures
     in
     let there = fade_there v.fade c.in-Fades.f (sym c.sheet_fade-fade.ensures ∙ c.in-Fades.is) in
     let segments = segments_here sheet c.args.l c.type_inv.sheet c.requires.0 c.requires.1 c.args.k c.in-Fades.f there c.requires.3 in

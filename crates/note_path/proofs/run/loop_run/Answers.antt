@@ -1,5 +1,4 @@
 -- `note_path::run::loop_run` meets its contract: the run is the first turn, none, or a later turn, as the step lies.
-use Prim.Native.Nat.{◌-◌}
 use mathlib.Core.Path.{refl}
 use Rattle.note_path.proofs.TurnLaws.{turn_first, turn_none, turn_later}
 use Rattle.note_path.proofs.run.loop_run.Goals as goal

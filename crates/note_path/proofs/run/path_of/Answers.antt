@@ -1,5 +1,4 @@
 -- `note_path::run::path_of` meets its contract: the octave lies within the samples, so no product passes 64 bits.
-use Prim.Native.Nat.{◌-◌}
 use mathlib.Core.Path.{sym, ◌∙◌}
 use Rattle.note_path.proofs.OctavePathLaws.{path_none, path_some}
 use Rattle.note_path.proofs.run.path_of.Goals as goal

@@ -19,11 +19,10 @@ turn part hi segment stands here read e so_far =
     ap (λ (ss : List SeqnSegment). all_valid ss hi) (sym (past_segments part stands here e segment read)) ∙ so_far
 
 pub loop-at-init : goal.loop-at-init
-loop-at-init c =
-    (
-      stands_next c.args.segments.now 0 c.next_member-at.ensures zero-le c.requires,
-      ap (λ (ss : List SeqnSegment). all_valid ss c.args.hi) (segments_same c.args.segments.now 0 c.next_member-at.ensures),
-    )
+loop-at-init c = (
+  stands_next c.args.segments.now 0 c.next_member-at.ensures zero-le c.requires,
+  ap (λ (ss : List SeqnSegment). all_valid ss c.args.hi) (segments_same c.args.segments.now 0 c.next_member-at.ensures),
+)
 
 -- in a turn the segment at the place is all there
 pub read_segment-s-requires : goal.read_segment-s-requires

@@ -33,8 +33,8 @@ pub returns-then-key_up_ahead : goal.returns-then-key_up_ahead
 returns-then-key_up_ahead c =
     let a = c.args in
     let passed =
-        speed_passed a.h a.n a.frames (sym c.has_octave.ensures ∙ c.if-not-has_octave.false)
-        (sym c.speed_refusal-of_speed.ensures ∙ c.if-of_speed-ne0.false)
+    speed_passed a.h a.n a.frames (sym c.has_octave.ensures ∙ c.if-not-has_octave.false)
+    (sym c.speed_refusal-of_speed.ensures ∙ c.if-of_speed-ne0.false)
     in
     sym (passed ∙ first_here _ _ (sym c.key_up_ahead.ensures ∙ c.if-key_up_ahead.true))
 
@@ -42,7 +42,7 @@ pub returns : goal.returns
 returns c =
     let a = c.args in
     let passed =
-        speed_passed a.h a.n a.frames (sym c.has_octave.ensures ∙ c.if-not-has_octave.false)
-        (sym c.speed_refusal-of_speed.ensures ∙ c.if-of_speed-ne0.false)
+    speed_passed a.h a.n a.frames (sym c.has_octave.ensures ∙ c.if-not-has_octave.false)
+    (sym c.speed_refusal-of_speed.ensures ∙ c.if-of_speed-ne0.false)
     in
     c.velocity_refusal.ensures ∙ sym (passed ∙ first_later _ _ (sym c.key_up_ahead.ensures ∙ c.if-key_up_ahead.false))

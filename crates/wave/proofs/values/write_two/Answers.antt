@@ -1,9 +1,12 @@
+-- The next two values are those of the next two samples, and the last two end the values of both channels.
 use mathlib.Core.Path.{sym, ap, ◌∙◌}
 use mathlib.Core.List.{map}
-use Prim.Native.Nat.{◌+◌}
+use Prim.Native.Nat.{◌+◌, ◌<◌}
 use native.Mathlib.Omega.{arith}
+use borrow.Author.Rules.{rules}
 use lib.IntN.{pos}
 use lib.ListN.{length, get_or, length-set, length-map, get_or-map}
+use lib.Signed.{mag}
 use mir.Syntax.{w8}
 use Rattle.laws.proofs.Prefix.{prefix_whole}
 use Rattle.laws.proofs.Signed.{back}
@@ -18,8 +21,10 @@ loop-i-preserved c =
     let a = c.args in
     let left = a.left.now in
     let right = a.right.now in
-    let first = c.value_of.ensures ∙ ap value_of (back w8 {z = get_or left l.i (pos 0)} c.value_of-arg-1.given) in
-    let second = c.value_of-in-loop-i.ensures ∙ ap value_of (back w8 {z = get_or right l.i (pos 0)} c.value_of-arg-in-loop-i-1.given) in (
+    let read_left : mag (get_or left l.i (pos 0)) < 128 = search rules in
+    let read_right : mag (get_or right l.i (pos 0)) < 128 = search rules in
+    let first = c.value_of.ensures ∙ ap value_of (back w8 {z = get_or left l.i (pos 0)} read_left) in
+    let second = c.value_of-in-loop-i.ensures ∙ ap value_of (back w8 {z = get_or right l.i (pos 0)} read_right) in (
       omega arith,
       simp length-set l.invariant.1,
       turn_stored (map value_of left) (map value_of right) a.out.now l.out l.i (value_of (pos 0)) _ _
