@@ -49,8 +49,8 @@ returns-then-number-ne0 c =
     let number = c.score_refusal-number.result in
     let outcome = λ (lent : List Entry). mix_sheet lent a.rate a.place a.sheet.now s (length a.out.now) in
     let e : (lent : List Entry) → TakenFrom lent a.score → outcome lent ≡ refuses number =
-        λ lent taken.
-        by_score lent a.rate a.place a.sheet.now s (length a.out.now) number (c.score_refusal-number.ensures ∙ sym (same_first a.score lent taken)) c.if-number-ne0.true
+    λ lent taken.
+    by_score lent a.rate a.place a.sheet.now s (length a.out.now) number (c.score_refusal-number.ensures ∙ sym (same_first a.score lent taken)) c.if-number-ne0.true
     in
     record { answer = refused_answer a.score a.place a.out.now outcome number e; buffer = refused_buffer a.score a.place a.out.now outcome number e }
 
@@ -67,7 +67,7 @@ returns-in-Refused c =
     let number = c.in-Refused.number in
     let outcome = λ (lent : List Entry). mix_sheet lent a.rate a.place a.sheet.now s (length a.out.now) in
     let e : (lent : List Entry) → TakenFrom lent a.score → outcome lent ≡ refuses number =
-        λ lent taken. by_sheet lent a.rate a.place a.sheet.now s (length a.out.now) (lent_none a.score none lent taken) number (sym c.in-Refused.ensures)
+    λ lent taken. by_sheet lent a.rate a.place a.sheet.now s (length a.out.now) (lent_none a.score none lent taken) number (sym c.in-Refused.ensures)
     in
     record { answer = refused_answer a.score a.place a.out.now outcome number e; buffer = refused_buffer a.score a.place a.out.now outcome number e }
 
@@ -79,9 +79,9 @@ returns-in-Sound c =
     let n = length a.out.now in
     let none = sym c.score_refusal-number.ensures ∙ c.if-number-ne0.false in
     let same : (lent : List Entry) → TakenFrom lent a.score → mix_voice (entries a.score) a.rate a.place v s n ≡ mix_sheet lent a.rate a.place a.sheet.now s n =
-        λ lent taken.
-        ap (λ l. mix_voice l a.rate a.place v s n) (same_entries a.score none lent taken)
-        ∙ sym (by_voice lent a.rate a.place a.sheet.now s n (lent_none a.score none lent taken) (sym c.in-Sound.ensures))
+    λ lent taken.
+    ap (λ l. mix_voice l a.rate a.place v s n) (same_entries a.score none lent taken)
+    ∙ sym (by_voice lent a.rate a.place a.sheet.now s n (lent_none a.score none lent taken) (sym c.in-Sound.ensures))
     in
     let done = c.mix_sound.ensures in
     record {

@@ -46,8 +46,8 @@ pub mixed_block-requires : goal.mixed_block-requires
 mixed_block-requires c =
     let a = c.args in
     let ready =
-        mixable (listed a.count a.numbers.now) a.rate a.sheet.now _ a.left.now a.right.now (length a.out.now)
-        c.requires.0 c.layout_of-l.ensures c.requires.2 (sym c.play_refusal-number.ensures ∙ c.if-number-ne0.false)
+    mixable (listed a.count a.numbers.now) a.rate a.sheet.now _ a.left.now a.right.now (length a.out.now)
+    c.requires.0 c.layout_of-l.ensures c.requires.2 (sym c.play_refusal-number.ensures ∙ c.if-number-ne0.false)
     in
     (ready.0, c.requires.1, ready.1)
 

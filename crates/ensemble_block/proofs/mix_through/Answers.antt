@@ -47,8 +47,8 @@ mix_stretch-requires c =
     let inside : 2 * (next - a.place) ≤ length o.out = rw o.invariant.2 room in
     let few : 2 * (next - at) ≤ length a.sums.now = omega (arith, e.short) in
     let ready =
-        stretch_ready (listed a.count a.numbers.now) a.rate at next _ _ a.sheet.now a.l a.left.now a.right.now _ _ c.requires.0 e in_time
-        (part_long a.place at next first e.some o.out inside) (totals_are a.place at next first e.some (length a.sums.now) o.sums few o.invariant.4)
+    stretch_ready (listed a.count a.numbers.now) a.rate at next _ _ a.sheet.now a.l a.left.now a.right.now _ _ c.requires.0 e in_time
+    (part_long a.place at next first e.some o.out inside) (totals_are a.place at next first e.some (length a.sums.now) o.sums few o.invariant.4)
     in
     (ready, c.requires.1)
 

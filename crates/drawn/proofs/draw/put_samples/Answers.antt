@@ -1,3 +1,4 @@
+-- A turn stores the next draw's sample, and after the last turn the last draw is at hand.
 use mathlib.Core.Path.{◌≡◌, sym, ap, ◌∙◌}
 use Prim.Native.Nat.{ℕ, ◌-◌}
 use native.Mathlib.Omega.{arith}
@@ -24,20 +25,14 @@ loop-i-preserved c =
       turn_last a.number a.n l.i l.x _ (omega arith) y_is l.invariant.4,
     )
 
-pub returns-clause-result : goal.returns-clause-result
+pub returns : goal.returns
 unfolding nth_draw
-returns-clause-result c =
+returns c =
     let l = c.loop-i in
     let a = c.args in
     let all : l.i ≡ a.n = omega arith in
     let none : a.n - l.i ≡ 0 = omega arith in
-    sym (ap (λ (k : ℕ). nth_draw k l.x) none) ∙ l.invariant.4
-
-pub returns-clause-buffer : goal.returns-clause-buffer
-unfolding nth_draw
-returns-clause-buffer c =
-    let l = c.loop-i in
-    let a = c.args in
-    let all : l.i ≡ a.n = omega arith in
-    let none : a.n - l.i ≡ 0 = omega arith in
-    l.invariant.2 ∙ prefix_whole (drawn_samples a.n a.number) a.out.now l.i (all ∙ sym (samples_length a.n a.number))
+    record {
+      result = sym (ap (λ (k : ℕ). nth_draw k l.x) none) ∙ l.invariant.4;
+      buffer = l.invariant.2 ∙ prefix_whole (drawn_samples a.n a.number) a.out.now l.i (all ∙ sym (samples_length a.n a.number));
+    }

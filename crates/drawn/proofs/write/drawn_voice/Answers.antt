@@ -58,7 +58,7 @@ returns c =
     let p = planned (goal.at.returns c).After-lengths_of-l in
     let left = c.put_samples-last.ensures in
     let w =
-        outputs_drawn p a.sheet.now _ a.left.now _ a.right.now _ _ c.if-sheet-l.false c.if-left-l.false c.if-right-l.false
-        c.put_sheet.ensures left.buffer left.result c.put_samples.ensures.buffer
+    outputs_drawn p a.sheet.now _ a.left.now _ a.right.now _ _ c.if-sheet-l.false c.if-left-l.false c.if-right-l.false
+    c.put_sheet.ensures left.buffer left.result c.put_samples.ensures.buffer
     in
     record { result = w.0; sheet = w.1.0; left = w.1.1.0; right = w.1.1.1 }

@@ -39,7 +39,7 @@ returns c =
     let p = c.requires in
     let block = c.sounding_block-count in
     let added =
-        added_frames (read_sheet a.sheet.now) s a.rate a.e a.at a.sums.now a.out.now p.calm p.even p.as_many
-        c.if-at-e.false p.good.ends_later p.in_time c.key_at-key.result block.new.out block.result c.key_at-key.ensures block.ensures
+    added_frames (read_sheet a.sheet.now) s a.rate a.e a.at a.sums.now a.out.now p.calm p.even p.as_many
+    c.if-at-e.false p.good.ends_later p.in_time c.key_at-key.result block.new.out block.result c.key_at-key.ensures block.ensures
     in
     record { sums = c.add_values.ensures.sums ∙ added; small = c.add_values.ensures.small }
