@@ -8,7 +8,8 @@ set -eu
 cd "$(dirname "$0")/.."
 list=crates/refusal/refusals.txt
 files="crates/refusal/src/lib.rt crates/refusal/specs/Numbers.antt include/svx.h host/svx/src/refusal.rs"
-scratch=target/refusals
+scratch=$(mktemp -d)
+trap 'rm -rf "$scratch"' EXIT
 
 case ${1-} in
 "" | --check) ;;
