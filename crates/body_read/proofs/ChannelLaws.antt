@@ -1,8 +1,8 @@
 -- What one channel gives, by cases: of its stream, and of the part that the octaves keep.
---     stream-refused, stream-gives     what a stream of bytes is
+--     stream_refused, stream_gives     what a stream of bytes is
 --     same_count                       bytes of one length are refused alike, and give as many samples
---     channel-gives                    all that follows from the number of a channel's samples
---     channel-whole                    a raw channel as long as the header says is kept whole
+--     channel_gives                    all that follows from the number of a channel's samples
+--     channel_whole                    a raw channel as long as the header says is kept whole
 -- Assumes nothing.
 use mathlib.Core.Path.{◌≡◌, refl, sym, ap, ◌∙◌}
 use mathlib.Core.Bool.{Bool, true, false, cond, ◌||◌}

@@ -1,6 +1,6 @@
 -- Every sample of the sides lies within -128..127, and raw samples written one side after the other are read back.
---     sides-samples     what BODY gives are samples
---     raw-back          the sides of raw samples written left side first
+--     sides_samples     what BODY gives are samples
+--     raw_back          the sides of raw samples written left side first
 -- Assumes nothing.
 use mathlib.Core.Path.{◌≡◌, refl, sym, ap, ◌∙◌}
 use mathlib.Core.Bool.{Bool, true, false, ◌||◌}

@@ -1,7 +1,7 @@
 -- What BODY gives to the sides, by cases, and what holds of it.
---     one-refused, one-gives, two-uneven, two-refused, two-gives     the sides by what their channels count
---     sides-unknown, sides-one, sides-two                            BODY by its compression and the number of channels
---     sides-known, sides_total, sides-suit                           what BODY gives has a known compression, and suits the header
+--     one_refused, one_gives, two_uneven, two_refused, two_gives     the sides by what their channels count
+--     sides_unknown, sides_one, sides_two                            BODY by its compression and the number of channels
+--     sides_known, sides_total, sides_suit                           what BODY gives has a known compression, and suits the header
 -- Assumes nothing.
 use mathlib.Core.Path.{◌≡◌, refl, sym, ap, ◌∙◌}
 use mathlib.Core.Bool.{Bool, true, false, cond, ◌||◌, and-true, and-false, and-eq-true_iff}

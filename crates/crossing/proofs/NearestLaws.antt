@@ -1,7 +1,7 @@
 -- What the nearest of the crossings within reach is, and that there is no other.
---     nearest-found, nearest-none      what an answer says
---     found-nearest, none-refused      the answer, by what is known of the crossings: the search cites these, and no definition
---     short-refused                    0 or 1 samples have no crossing
+--     nearest_found, nearest_none      what an answer says
+--     found_nearest, none_refused      the answer, by what is known of the crossings: the search cites these, and no definition
+--     short_refused                    0 or 1 samples have no crossing
 -- Assumes nothing.
 use Prim.Native.Nat.{ℕ, ◌-◌, ◌≤◌}
 use mathlib.Core.Bool.{Bool, true, false, cond, ◌&&◌, ◌||◌, true≢false}

@@ -1,6 +1,6 @@
 -- The blocks that calls put out one after another, as frames in order.
---     block_of, put-length              the block of a call, which has none where it is turned back, and its values
---     InOrder, order-put, order-count  values that are frames in order: a block's before others, and how many they are
+--     block_of, put_length              the block of a call, which has none where it is turned back, and its values
+--     InOrder, order_put, order_count  values that are frames in order: a block's before others, and how many they are
 -- Assumes nothing.
 use Prim.Native.Nat.{ℕ, ◌+◌, ◌*◌, ◌/◌}
 use mathlib.Core.List.{List, [], ◌++◌}

@@ -1,8 +1,8 @@
 -- The numbers by which a chain of steps may be refused.
 --     one_of, all_of                   a number of a list, by a test that is computed
---     Within, by-test .. unless-zero   what each step of a chain may be refused by
---     others, holding-among            a rule that holds has one of the numbers, where no other rule holds
---     rules-within                     what rules turn back is refused by one of their numbers
+--     Within, by_test .. unless_zero   what each step of a chain may be refused by
+--     others, holding_among            a rule that holds has one of the numbers, where no other rule holds
+--     rules_within                     what rules turn back is refused by one of their numbers
 --     along                            what is said of a walk from each place on
 -- Assumes nothing.
 use Prim.Native.Nat.{ℕ, zero, suc, ◌+◌, ◌≤◌, ◌<◌}

@@ -1,9 +1,9 @@
 -- Draws: what 32 bits keep of them, and samples drawn one after another.
---     draw-is                         three shifts of 32 bits are the next draw
---     nth_after, samples-after        n draws, and m more from the last of them
---     draws-at                        each draw of a list
---     samples-length, samples-fit     n draws give n samples
---     turn-next, turn-left, turn_last  one more turn of the loop that draws samples
+--     draw_is                         three shifts of 32 bits are the next draw
+--     nth_after, samples_after        n draws, and m more from the last of them
+--     draws_at                        each draw of a list
+--     samples_length, samples_fit     n draws give n samples
+--     turn_next, turn_left, turn_last  one more turn of the loop that draws samples
 -- Assumes nothing.
 use Prim.Native.Nat.{ℕ, zero, suc, ◌+◌, ◌-◌, ◌*◌, ◌/◌, ◌%◌, ◌^◌, ◌<◌}
 use mathlib.Core.List.{◌∷◌, ◌++◌, map, map-append}

@@ -1,11 +1,11 @@
 -- The drawn voice: its sheet, how long its parts are, and what it is told from.
---     flat-two, flat-one, flat-length     the sheet of a voice that has a header, and a CHAN if it has two channels
---     header-fits, total-most             what the header's fields and its octaves come to
---     sides-fit, left-count, right-count  the samples of each side, and how many there are
---     sheet-most, left-most, right-most   how long its parts can be
---     drawn-refuses, drawn-gives          0 is refused, and any other number gives its voice
---     drawn-allowed, drawn-stereo         what a sheet and a writer ask of it
---     measured, outputs-drawn             its lengths, and what its stores make of the answer and of the buffers
+--     flat_two, flat_one, flat_length     the sheet of a voice that has a header, and a CHAN if it has two channels
+--     header_fits, total_most             what the header's fields and its octaves come to
+--     sides_fit, left_count, right_count  the samples of each side, and how many there are
+--     sheet_most, left_most, right_most   how long its parts can be
+--     drawn_refuses, drawn_gives          0 is refused, and any other number gives its voice
+--     drawn_allowed, drawn_stereo         what a sheet and a writer ask of it
+--     measured, outputs_drawn             its lengths, and what its stores make of the answer and of the buffers
 -- Assumes nothing.
 use Prim.Native.Nat.{ℕ, ◌+◌, ◌-◌, ◌%◌, ◌^◌, ◌≤◌, ◌<◌}
 use mathlib.Core.Bool.{Bool, true, false, cond}

@@ -1,10 +1,10 @@
 -- A call of the mixer by the number of the first rule that holds: refused by it, or the next mixed frames. No other law unfolds `mix_voice` and
 -- `mix_sheet`.
---     mix-refused, mix-accepted     a call on a voice, by the number
---     refused-number                the number, of a refused call
---     block-frames, no-rule         what an accepted call gives, and that no rule holds
---     mix-capped                    a call from past 4,294,967,295 is the one from there
---     by-score, by-sheet, mix-sound a call on a sheet: refused by the score, by the sheet, or as on the sheet's voice
+--     mix_refused, mix_accepted     a call on a voice, by the number
+--     refused_number                the number, of a refused call
+--     block_frames, no_rule         what an accepted call gives, and that no rule holds
+--     mix_capped                    a call from past 4,294,967,295 is the one from there
+--     by_score, by_sheet, mix_sound a call on a sheet: refused by the score, by the sheet, or as on the sheet's voice
 -- Assumes nothing.
 use Prim.Native.Nat.{ℕ, ◌+◌, ◌/◌, min}
 use mathlib.Core.Bool.{Bool, true, false}

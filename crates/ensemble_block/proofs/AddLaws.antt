@@ -1,5 +1,5 @@
 -- One entry added to the sums of a stretch: its block's frames that aren't over are added, and those after them are silent.
---     added-nothing, added-frames          an entry that hasn't started, and one that has
+--     added_nothing, added_frames          an entry that hasn't started, and one that has
 -- Assumes nothing.
 use Prim.Native.Nat.{ℕ, ◌+◌, ◌-◌, ◌*◌, ◌/◌, ◌%◌, ◌≤◌, ◌<◌, min}
 use mathlib.Core.List.{List, ◌++◌}

@@ -1,9 +1,9 @@
 -- A block that is filled stretch by stretch, and silenced past the last of them.
---     filled_none, filled_more, filled-whole      before any stretch, one more, and the whole
---     filled-length                               the buffer keeps its length
---     part_length, take-zeros, zeros-back         the part of the buffer that a stretch is lent, and of sums that are 0
---     stretch-ready                               what a stretch asks
---     less-left                                   fewer frames are left
+--     filled_none, filled_more, filled_whole      before any stretch, one more, and the whole
+--     filled_length                               the buffer keeps its length
+--     part_length, take_zeros, zeros_back         the part of the buffer that a stretch is lent, and of sums that are 0
+--     stretch_ready                               what a stretch asks
+--     less_left                                   fewer frames are left
 -- Assumes nothing.
 use Prim.Native.Nat.{ℕ, ◌+◌, ◌-◌, ◌*◌, ◌/◌, ◌%◌, ◌≤◌, ◌<◌, min}
 use mathlib.Core.List.{List, ◌++◌, append_assoc}

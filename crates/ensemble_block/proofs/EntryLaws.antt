@@ -1,8 +1,8 @@
 -- An entry in a calm stretch: it is silent throughout, or its note plays throughout, held or released.
---     key-released, key-held            its key, by the stretch's first frame
---     entry-started, entry-not-yet      one frame of it
---     entry-plays, entry-waits          its frames in a stretch
---     entry-accepted                    no rule turns its note back
+--     key_released, key_held            its key, by the stretch's first frame
+--     entry_started, entry_not_yet      one frame of it
+--     entry_plays, entry_waits          its frames in a stretch
+--     entry_accepted                    no rule turns its note back
 -- Assumes nothing.
 use Prim.Native.Nat.{ℕ, ◌+◌, ◌-◌, ◌%◌, ◌≤◌, ◌<◌}
 use mathlib.Core.Bool.{Bool, true, false}

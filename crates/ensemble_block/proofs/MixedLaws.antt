@@ -1,8 +1,8 @@
 -- Mixed frames: no law elsewhere unfolds `mixed_frame` and `all_together`.
---     mixed-last, mixed-is              silence from mixed frame 4,294,967,295 on, and a frame up to there
---     no-entry, one_entry               of no entries: silence; of one that starts at 0: its note
---     none-together, next-together      no frames at once, and one more
---     held-frames, plus-frames          the values of frames, held, and added to those of others
+--     mixed_last, mixed_is              silence from mixed frame 4,294,967,295 on, and a frame up to there
+--     no_entry, one_entry               of no entries: silence; of one that starts at 0: its note
+--     none_together, next_together      no frames at once, and one more
+--     held_frames, plus_frames          the values of frames, held, and added to those of others
 -- Assumes nothing.
 use Prim.Native.Nat.{ℕ, zero, suc, ◌-◌, ◌≤◌, ◌<◌}
 use mathlib.Core.Bool.{Bool, true, false, or-false}

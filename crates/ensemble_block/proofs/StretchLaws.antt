@@ -1,7 +1,7 @@
 -- Where a stretch ends: entry by entry it is cut at a start and at a key-up that lie within it.
---     cut-past, cut-within                      an event that lies before, or past, the stretch's first frame
---     calm-before, all-at                       an end that comes sooner; one of those for which something holds
---     stretch-none, stretch-all, stretch-more   of no entries, of all, and of one more
+--     cut_past, cut_within                      an event that lies before, or past, the stretch's first frame
+--     calm_before, all_at                       an end that comes sooner; one of those for which something holds
+--     stretch_none, stretch_all, stretch_more   of no entries, of all, and of one more
 -- Assumes nothing.
 use Prim.Native.Nat.{ℕ, zero, suc, ◌+◌, ◌≤◌, ◌<◌, min}
 use mathlib.Core.Bool.{Bool, true, false}

@@ -1,9 +1,9 @@
 -- The sums of a stretch, entry by entry from the last to the first, and held.
 --     Summed                                       what the sums are once some entries are added, and how large
---     summed-none, summed-more, summed-held        before any entry, one more, and held
---     summed-length                                how many there are
+--     summed_none, summed_more, summed_held        before any entry, one more, and held
+--     summed_length                                how many there are
 --     Added                                        the entries of a score from a place on are added
---     added-start, added_more, added-held          before any entry, one more, and all of them, held: the mixed frames
+--     added_start, added_more, added_held          before any entry, one more, and all of them, held: the mixed frames
 --     entry_ready                                  what the next entry asks
 -- Assumes nothing.
 use Prim.Native.Nat.{ℕ, ◌+◌, ◌-◌, ◌*◌, ◌/◌, ◌≤◌, ◌<◌, ◌^◌}

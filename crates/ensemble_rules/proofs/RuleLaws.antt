@@ -1,13 +1,13 @@
 -- The rules of a mix, by their parts and entry by entry.
---     order_is, entries-are                          the rules of a score that has a first entry; order-none, entries_none of one that has none
+--     order_is, entries_are                          the rules of a score that has a first entry; order_none, entries_none of one that has none
 --     held_first                                     the first that holds of a note that begins and is held: no key-up is ahead
---     score-numbered, play-numbered, rules-numbered  none has the number 0
---     play-are                                       those that follow the score's own: the voice's, the sequence's, the places' and the entries'
---     mix_first, mix-score                           the first that holds: of the score's own, or else of the others
---     mix-holds                                      one that holds is among the score's own or the others
---     play-parts                                     where none holds, none of a part does, nor of an entry
---     score-small, score-ends                        what the score's own rules leave: at most sixteen entries, no key-up before its start
---     mix-numbers                                    the numbers, in the order in which they are judged
+--     score_numbered, play_numbered, rules_numbered  none has the number 0
+--     play_are                                       those that follow the score's own: the voice's, the sequence's, the places' and the entries'
+--     mix_first, mix_score                           the first that holds: of the score's own, or else of the others
+--     mix_holds                                      one that holds is among the score's own or the others
+--     play_parts                                     where none holds, none of a part does, nor of an entry
+--     score_small, score_ends                        what the score's own rules leave: at most sixteen entries, no key-up before its start
+--     mix_numbers_lem                                the numbers, in the order in which they are judged
 -- Assumes nothing.
 use Prim.Native.Nat.{ℕ, ◌≤◌}
 use mathlib.Core.Bool.{not}

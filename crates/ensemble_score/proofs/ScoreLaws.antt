@@ -1,7 +1,7 @@
 -- The entries of a score that was taken over: how many there are, which they are, and that a score of at most sixteen comes back whole.
---     listed-length, listed-entry          how many, and which stands at a place
---     left-next, left-none, taken_next     the entries that a loop has left, or has taken
---     listed-is, taken-listed              a score of at most sixteen is its entries; every score by value has been taken from some list
+--     listed_length, listed_entry          how many, and which stands at a place
+--     left_next, left_none, taken_next     the entries that a loop has left, or has taken
+--     listed_is, taken_listed              a score of at most sixteen is its entries; every score by value has been taken from some list
 -- Assumes nothing.
 use Prim.Native.Nat.{ℕ, zero, suc, ◌+◌, ◌≤◌, ◌<◌}
 use mathlib.Core.List.{List, [], ◌∷◌, ◌++◌}

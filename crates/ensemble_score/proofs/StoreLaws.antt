@@ -1,7 +1,7 @@
 -- Entries stored as numbers, five in a row: the one that is stored is there, and the others stay.
---     entry-stored                    one entry
---     four-stored                     four, one after another
---     Below, more-stored              the entries of a score, four more at a time
+--     entry_stored                    one entry
+--     four_stored                     four, one after another
+--     Below, more_stored              the entries of a score, four more at a time
 -- Assumes nothing.
 use Prim.Native.Nat.{ℕ, zero, suc, ◌+◌, ◌-◌, ◌*◌, ◌%◌, ◌≤◌, ◌<◌}
 use mathlib.Core.List.{List, [], ◌∷◌}

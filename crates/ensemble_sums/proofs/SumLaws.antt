@@ -1,11 +1,11 @@
 -- Sums value by value, how large they get, and a sum held within 16 bits.
---     plus-longer                                    how many sums there are
---     plus-take, plus-at                             the first n sums, and the one at a place
---     plus-join, plus-zeros, added-zeros             sums of two parts, of zeros and values, and of values followed by zeros
---     left_at, all-written                           a buffer written from its front: what is not reached yet, and what it holds in the end
---     within-at, within_more, within-zeros           one number of those within a bound, a larger bound, and zeros
---     added-within, within-set                       the bound of a sum that a value is added to, and a store within it
---     held-parts, held_same, held-zero               a held number by its parts; a number that fits 16 bits is held as it is
+--     plus_longer                                    how many sums there are
+--     plus_take, plus_at                             the first n sums, and the one at a place
+--     plus_join, plus_zeros, added_zeros             sums of two parts, of zeros and values, and of values followed by zeros
+--     left_at, all_written                           a buffer written from its front: what is not reached yet, and what it holds in the end
+--     within_at, within_more, within_zeros           one number of those within a bound, a larger bound, and zeros
+--     added_within, within_set                       the bound of a sum that a value is added to, and a store within it
+--     held_parts, held_same, held_zero               a held number by its parts; a number that fits 16 bits is held as it is
 -- Assumes nothing.
 use Prim.Native.Nat.{ℕ, zero, suc, ◌+◌, ◌-◌, ◌≤◌, ◌<◌, min}
 use mathlib.Core.List.{List, [], ◌∷◌, ◌++◌, append-nil}

@@ -1,8 +1,8 @@
 -- What the point at a place does to the level and to the time that the points take: passed, on the way, or none left.
---     first-passed, first-on-way, first-total     the first of a list of points
---     empty-level, empty-total                    no point
---     passed, on-way, total-more                  the point at a place of an ATAK or RLSE
---     none_left, total-none                       no point there
+--     first_passed, first_on_way, first_total     the first of a list of points
+--     empty_level, empty_total                    no point
+--     passed, on_way, total_more                  the point at a place of an ATAK or RLSE
+--     none_left, total_none                       no point there
 -- Assumes nothing.
 use Prim.Native.Nat.{ℕ, ◌+◌, ◌-◌, ◌≤◌, ◌<◌}
 use borrow.Author.Tests.{le-leb, lt-leb}

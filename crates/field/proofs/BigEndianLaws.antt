@@ -1,6 +1,6 @@
 -- The laws of big-endian numbers: by these the functions are proved, here and above. No proof elsewhere unfolds the definitions.
---     bytes-number, number-back     what was written reads back, at any width, whatever follows it
---     number-bytes                  what was read writes back, of bytes
+--     bytes_number, number_back     what was written reads back, at any width, whatever follows it
+--     number_bytes                  what was read writes back, of bytes
 -- Assumes nothing.
 use Rattle.std.proofs.Common.{◌≡◌, ℕ, zero, suc, ◌+◌, ◌*◌, ◌/◌, ◌%◌, ◌^◌, ◌<◌, ◌≤◌, List, [], ◌∷◌, ◌++◌, length, get_or, take, drop, sym, refl, ap, ◌∙◌, le_of_suc-le-suc, not-suc-le-zero, add-zero, mul-le-mul_right, mod-lt, mod-eq_of_lt, mul_assoc, mul_comm, add-mul, pow-suc, div-add-mod', mul_right_comm, arith, get_or-drop, get_or-take}
 use lib.ListN.{get_or-append}

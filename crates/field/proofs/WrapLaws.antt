@@ -1,8 +1,8 @@
 -- Laws of a number brought back into -128..127. No other file of laws looks into `residue` or `to_sample`.
---     residue-sum, residue-difference     by the bytes of two samples
---     sample-fits, sample-kept            what is brought back is a sample, and a sample is kept
---     sum_back, difference-back           a difference added to what it was taken from, and the other way round
---     sample-turn, sample-below, sample-above, sample-apart     256 apart, past either end, and less than 256 apart
+--     residue_sum, residue_difference     by the bytes of two samples
+--     sample_fits, sample_kept            what is brought back is a sample, and a sample is kept
+--     sum_back, difference_back           a difference added to what it was taken from, and the other way round
+--     sample_turn, sample_below, sample_above, sample_apart     256 apart, past either end, and less than 256 apart
 -- Assumes nothing.
 use Rattle.std.proofs.Common.{◌≡◌, ℕ, suc, ◌+◌, ◌-◌, ◌%◌, ◌<◌, Bool, true, false, cond, ltb, ℤ, pos, negsuc, ◌+ℤ◌, ◌-ℤ◌, neg_ℤ, ◌≤ℤ◌, ◌<ℤ◌, sym, refl, ap, ◌∙◌, arith, w8, SFits, ltb-false, ltb-true}
 use lib.IntN.{sub_ℕ}

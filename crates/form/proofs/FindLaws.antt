@@ -1,5 +1,5 @@
 -- Where the first chunk of a name lies: one answer of the walk, and that the payload's bytes are there.
---     place-hit, place-miss    what one whole chunk does to the place
+--     place_hit, place_miss    what one whole chunk does to the place
 --     found                    at the place lie the bytes of the first chunk of the name, within the FORM
 -- Assumes nothing.
 use Prim.Native.Nat.{ℕ, ◌+◌, ◌%◌, ◌≤◌}

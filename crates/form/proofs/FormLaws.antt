@@ -1,8 +1,8 @@
 -- The laws of the kinds, of the first bad chunk and of the chunks of a name.
---     kind-name, kind-none                            a name's kind
---     size-least                                      what a right payload has
---     all-hit, all-miss, bad-here, bad-later          what one answer of the walk does to each
---     sound-step, first-sound                         chunks without a bad one
+--     kind_name, kind_none                            a name's kind
+--     size_least                                      what a right payload has
+--     all_hit, all_miss, bad_here, bad_later          what one answer of the walk does to each
+--     sound_step, first_sound                         chunks without a bad one
 -- Assumes nothing.
 use Prim.Native.Nat.{ℕ, zero, suc, ◌+◌, ◌-◌, ◌%◌, ◌≤◌, ◌<◌}
 use borrow.Author.Tests.{eq-eqb, ne_eqb, eqb-true, ltb-true, ltb-false}

@@ -1,6 +1,6 @@
 -- A header is 20 bytes; what is written reads back, and what is read writes back.
---     header-length    a header's bytes are 20
---     header-back      a header that was written reads back, whatever follows its bytes
+--     header_length    a header's bytes are 20
+--     header_back      a header that was written reads back, whatever follows its bytes
 --     bytes_back       bytes that were read as a header are written again
 -- Assumes nothing.
 use Prim.Native.Nat.{ℕ, ◌+◌, ◌^◌, ◌≤◌, ◌<◌}

@@ -1,6 +1,6 @@
 -- How the octaves' lengths add up, when their total is refused, and what the code's factor and quotient are.
---     octave-next      octave k starts where the ones before it end
---     octave-end       each octave ends within the total
+--     octave_next      octave k starts where the ones before it end
+--     octave_end       each octave ends within the total
 -- Assumes nothing.
 use Prim.Native.Nat.{ℕ, ◌+◌, ◌-◌, ◌*◌, ◌/◌, ◌%◌, ◌^◌, ◌≤◌, ◌<◌, min}
 use mathlib.Core.Bool.{Bool, true, false, cond}

@@ -1,8 +1,8 @@
 -- A loop that writes a buffer from its front: after i turns the buffer holds `take i want ++ drop i d`, where `want` is what the
 -- loop writes in the end and d what the buffer held.
---     prefix-store, prefix-next     one store more, of want's next element
---     prefix-whole, prefix-part     in the end: all of want, or its first n elements, and past them what d held
---     prefix-map, prefix-map-whole  where want is f of each element of a list
+--     prefix_store, prefix_next     one store more, of want's next element
+--     prefix_whole, prefix_part     in the end: all of want, or its first n elements, and past them what d held
+--     prefix_map, prefix_map_whole  where want is f of each element of a list
 -- Assumes nothing.
 use mathlib.Core.Path.{◌≡◌, refl, sym, ap, ◌∙◌}
 use mathlib.Core.List.{List, [], ◌∷◌, ◌++◌, map, append_assoc}

@@ -3,7 +3,7 @@
 --                      It reads the tests that lead to a place, `lt_z a b ≡ true`, and equations of ℤ, by itself
 --     known f          of f : SFits w z, as `c.fits.x`: the bounds of z's parts, and that `to_z w (of_z w z)` has the same parts
 --     sum x y, diff x y, times z n, quot z d     the parts of x +ℤ y, x -ℤ y, z *ℤ pos n, quot_z z (pos d): list one for each such term in the goal
---     abs-parts z, mag-parts z                   nat_abs z and mag z by the parts
+--     abs_parts z, mag_parts z                   nat_abs z and mag z by the parts
 --     back w h, to_z-of_z f, widened, to_z_pos      the machine's reading of a number that fits is that number: `rw` with these, the inmost first
 -- Each `one_is_zero` costs omega a case split, and it stops after six: list only what the goal needs, or a `.parts` field alone.
 -- Assumes nothing.

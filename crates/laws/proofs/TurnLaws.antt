@@ -1,7 +1,7 @@
 -- Two lists by turns, and the elements at even and at odd places: how many there are, a turn of a loop, and each way back.
---     by-turns-length, by-turns-at, by-turns-first, by-turns-last, pair-stored, turn-stored     two lists by turns
---     evens-length, odds-length, parted-at, parted-last            a list parted
---     evens-back, odds-back, turns-back                            parted again, and by turns again
+--     by_turns_length, by_turns_at, by_turns_first, by_turns_last, pair_stored, turn_stored     two lists by turns
+--     evens_length, odds_length, parted_at, parted_last            a list parted
+--     evens_back, odds_back, turns_back                            parted again, and by turns again
 -- Assumes nothing.
 use mathlib.Core.Path.{◌≡◌, refl, sym, ap, ap₂, ◌∙◌}
 use mathlib.Core.List.{List, [], ◌∷◌, ◌++◌}

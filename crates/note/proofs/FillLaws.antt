@@ -1,7 +1,7 @@
 -- A fill by the number of the first rule that holds: refused by it, or the next frames. No other law unfolds `fill_voice`.
---     fill-refused, fill-accepted         the fill, by the number
---     rule-holds, first-zero, no-rule     the rules, by the fill: one holds that has the number of the refusal; none where it isn't refused
---     fill-same                           from two frames on, with the same rules and next frames
+--     fill_refused, fill_accepted         the fill, by the number
+--     rule_holds, first_zero, no_rule     the rules, by the fill: one holds that has the number of the refusal; none where it isn't refused
+--     fill_same                           from two frames on, with the same rules and next frames
 -- Assumes nothing.
 use Prim.Native.Nat.{ℕ, ◌/◌}
 use mathlib.Core.List.{List}

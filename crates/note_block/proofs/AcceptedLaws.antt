@@ -1,11 +1,11 @@
 -- What it says that no rule turns a fill back.
---     in-octave                             the octave lies within the samples, and the segments lie within it
---     fade-fits, fade-ends                  a fade has a sequence, whose path is short, and ends with the path
---     sides-same                            two sides are of one length
---     even-places, slow-step                the buffer and the step
---     some-rate, slow-rate                  the rate
---     key-up-then                           a key-up isn't ahead of the frames filled
---     most-velocity                         the velocity
+--     in_octave_lem                         the octave lies within the samples, and the segments lie within it
+--     fade_fits, fade_ends                  a fade has a sequence, whose path is short, and ends with the path
+--     sides_same                            two sides are of one length
+--     even_places, slow_step                the buffer and the step
+--     some_rate, slow_rate                  the rate
+--     key_up_then                           a key-up isn't ahead of the frames filled
+--     most_velocity                         the velocity
 -- Assumes nothing.
 use Prim.Native.Nat.{ℕ, ◌+◌, ◌-◌, ◌*◌, ◌%◌, ◌≤◌, ◌<◌, ◌^◌}
 use mathlib.Core.Bool.{Bool, true, false, cond, ◌||◌}

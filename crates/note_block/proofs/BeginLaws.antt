@@ -1,6 +1,6 @@
 -- What an accepted fill hands to the functions that take its path and its gains from the sheet, and to its block.
---     path-asks, gains-ask     the octave is there, the segments lie within it, and a fade's path is short
---     block-ready              with the path and the gains that were made, a block may be played
+--     path_asks, gains_ask     the octave is there, the segments lie within it, and a fade's path is short
+--     block_ready              with the path and the gains that were made, a block may be played
 -- Assumes nothing.
 use Prim.Native.Nat.{ℕ, ◌-◌, ◌/◌, ◌≤◌, ◌<◌, ◌^◌, min}
 use mathlib.Core.Bool.{Bool}

@@ -1,6 +1,6 @@
 -- A block that is ready may be played in its stage, and plays the note's frames.
---     held_asks, held-plays             of a held note, in the attack
---     released-asks, released-plays     of a released one, in the release
+--     held_asks, held_plays             of a held note, in the attack
+--     released_asks, released_plays     of a released one, in the release
 -- Assumes nothing.
 use Prim.Native.Nat.{ℕ, ◌≤◌, ◌<◌}
 use mathlib.Core.Bool.{false}

@@ -1,7 +1,7 @@
 -- The parts of a sound sheet, cut out by its layout.
---     places-are                   the places follow one another and lie in the sheet
---     attacks-are, releases-are    the points of its envelopes, none of them cut off
---     segments-at, sequence-is     the bytes of its sequence, and the sequence by the code's answers
+--     places_are                   the places follow one another and lie in the sheet
+--     attacks_are, releases_are    the points of its envelopes, none of them cut off
+--     segments_at, sequence_is     the bytes of its sequence, and the sequence by the code's answers
 -- Assumes nothing.
 use Prim.Native.Nat.{ℕ, ◌≤◌}
 use mathlib.Core.Bool.{Bool}

@@ -1,7 +1,7 @@
 -- A loop that writes zeros from a place on: in the end the buffer holds what it held up to the place, and zeros after it.
 --     silenced                                       what it holds in the end
---     silence-length                                 its length stays
---     silence-none, silence-more, silence-whole      before the loop, one zero more, and at the end
+--     silence_length                                 its length stays
+--     silence_none, silence_more, silence_whole      before the loop, one zero more, and at the end
 -- Assumes nothing.
 use Prim.Native.Nat.{ℕ, ◌+◌, ◌-◌, ◌≤◌, ◌<◌}
 use mathlib.Core.List.{List, ◌++◌, append-nil}

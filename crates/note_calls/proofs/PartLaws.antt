@@ -1,8 +1,8 @@
 -- A fill that was lent a part of a buffer. What the part held matters to no answer and no accepted block.
---     block-places                           an accepted block has as many values as its buffer has places
---     same_answer, same-note                 by any two buffers of one length
---     accepted-within, accepted-length       how many values a fill puts out, by its answer
---     part-places, part-stored               the part's length; a fill's accepted block, stored at the part's place of the whole
+--     block_places                           an accepted block has as many values as its buffer has places
+--     same_answer, same_note                 by any two buffers of one length
+--     accepted_within, accepted_length       how many values a fill puts out, by its answer
+--     part_places, part_stored               the part's length; a fill's accepted block, stored at the part's place of the whole
 -- Assumes nothing.
 use Prim.Native.Nat.{ℕ, ◌+◌, ◌/◌, ◌%◌, ◌≤◌}
 use mathlib.Core.List.{List, ◌++◌, append_assoc}

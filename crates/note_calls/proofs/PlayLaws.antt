@@ -1,11 +1,11 @@
 -- What calls put out, and the note after them, call by call. No law elsewhere unfolds `play` and `last_note`.
---     blocks-next, answers_next, note-next          a call, and the calls past it
---     key-up-puts, key-up-note                      a number that is a key-up
---     fill-blocks, fill-answers, fill-note          a number that is a fill
---     fill-put, answer-put                          where its block and its answer are stored
---     none-blocks, none_answers, none-note          no call
---     within-places, within-answers                 what a call puts out has room
---     velocity-stays                                the velocity, which no call changes
+--     blocks_next, answers_next, note_next          a call, and the calls past it
+--     key_up_puts, key_up_note                      a number that is a key-up
+--     fill_blocks, fill_answers, fill_note          a number that is a fill
+--     fill_put, answer_put                          where its block and its answer are stored
+--     none_blocks, none_answers, none_note          no call
+--     within_places, within_answers                 what a call puts out has room
+--     velocity_stays                                the velocity, which no call changes
 -- Assumes nothing.
 use Prim.Native.Nat.{ℕ, ◌+◌, ◌≤◌}
 use mathlib.Core.Bool.{Bool, true, false, cond}

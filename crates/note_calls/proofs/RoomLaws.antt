@@ -1,9 +1,9 @@
 -- The room that a list of calls needs, call by call. No law elsewhere unfolds `places_in` and `fills_in`.
---     next-call                              the call at a place, and those past it
---     places-none, fills-none                no call needs no room
---     places-next, fills-next                a call's room, and that of the calls past it
---     key-up-places, key-up-answers, fill-places, fill-answer     a number that is a key-up, or a fill
---     room-none, no-places, no-answers, room-past, room-parts     `room_for` by these
+--     next_call                              the call at a place, and those past it
+--     places_none, fills_none                no call needs no room
+--     places_next, fills_next                a call's room, and that of the calls past it
+--     key_up_places, key_up_answers, fill_places, fill_answer     a number that is a key-up, or a fill
+--     room_none, no_places, no_answers, room_past, room_parts     `room_for` by these
 -- Assumes nothing.
 use Prim.Native.Nat.{ℕ, ◌+◌, ◌-◌, ◌≤◌, ◌<◌}
 use mathlib.Core.Bool.{Bool, true, false, ◌&&◌}

@@ -1,6 +1,6 @@
 -- Calls under way: the invariant of the loop that makes them. What is left to play gives the whole, and there is room for it.
 --     Calling, AllMade                                          the calls before a place are made; all of them are
---     calling-start, calling-room, calling-step, calling-done   no call, the next call's room, one call more, and all of them
+--     calling_start, calling_room, calling_step, calling_done   no call, the next call's room, one call more, and all of them
 -- Assumes nothing.
 use Prim.Native.Nat.{ℕ, ◌+◌, ◌≤◌, ◌<◌}
 use mathlib.Core.Bool.{true}

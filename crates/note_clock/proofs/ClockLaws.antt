@@ -1,8 +1,8 @@
 -- A clock that is carried from frame to frame.
---     ticked-same, ticked-over            one frame more by one comparison: the rate fits once more, or it doesn't
+--     ticked_same, ticked_over            one frame more by one comparison: the rate fits once more, or it doesn't
 --     runs, shows_more                    a clock that shows n frames can go on, and then shows one more
 --     Carried, carried                    at every frame of a block both numbers are what the division gives
---     held-clock, released-clock          the same of a held note, and of one released at frame u
+--     held_clock, released_clock          the same of a held note, and of one released at frame u
 -- Assumes nothing.
 use Prim.Native.Nat.{ℕ, zero, suc, ◌+◌, ◌-◌, ◌*◌, ◌/◌, ◌%◌, ◌≤◌, ◌<◌, ◌^◌}
 use mathlib.Core.Path.{◌≡◌, refl, sym, ◌∙◌}

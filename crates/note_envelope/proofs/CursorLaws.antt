@@ -1,10 +1,10 @@
 -- A cursor that moves on over the points of a part.
 --     Passed                      the invariant of the loop that passes points
---     passed_none, passed-more    where it begins, and one point more
---     stopped-way, stopped-rest   what it hands back: on the way, or past every point
+--     passed_none, passed_more    where it begins, and one point more
+--     stopped_way, stopped_rest   what it hands back: on the way, or past every point
 --     stays, begun                a cursor that isn't moved, and one at the front
---     stood, follow, follow-on    a cursor that follows an envelope says what is so, and still follows it moved on, or from later on
---     level-small, moved-small    its level is at most 65,536
+--     stood, follow, follow_on    a cursor that follows an envelope says what is so, and still follows it moved on, or from later on
+--     level_small, moved_small    its level is at most 65,536
 -- Assumes nothing.
 use Prim.Native.Nat.{ℕ, ◌+◌, ◌-◌, ◌≤◌, ◌<◌}
 use borrow.Author.Tests.{le-leb, lt-leb}

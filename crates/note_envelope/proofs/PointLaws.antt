@@ -1,10 +1,10 @@
 -- What the record at a place of a part does to the levels and to the end that the place stands for.
---     point-here, points-end, points-next     all that is used of how points lie in a part
---     level-front, end-front                  the front of a part
---     level-next, end-next                    bytes that open groups are passed over
---     level-pass, end-pass                    a point that has ended by then is passed
---     level-way, end-way                      a point on the way
---     level-rest, end_rest                    no point left
+--     point_here, points_end, points_next     all that is used of how points lie in a part
+--     level_front, end_front                  the front of a part
+--     level_next, end_next                    bytes that open groups are passed over
+--     level_pass, end_pass                    a point that has ended by then is passed
+--     level_way, end_way                      a point on the way
+--     level_rest, end_rest                    no point left
 -- Assumes nothing.
 use Prim.Native.Nat.{ℕ, ◌+◌, ◌-◌, ◌≤◌, ◌<◌}
 use lib.IntN.{ℤ}

@@ -1,10 +1,10 @@
 -- The frames of a note. From 4,294,967,295 on they are silent, and before a key-up they are those of a held note. So neither a key-up
 -- after the frames put out nor the stop of the count at 4,294,967,295 changes a frame.
---     frame_is, frame-last                    a frame by the gains, its place and its level, up to there, and silence from there on
---     attack-is, level-held, level-released   its level: of the attack, or from a key-up on of the release
---     frame-before, frame-put                 frames before a key-up
---     frame-capped                            frames counted from 4,294,967,295 at most
---     both-frames                             what holds of two frames that are over and of two that sound, of every frame by two chains
+--     frame_is, frame_last                    a frame by the gains, its place and its level, up to there, and silence from there on
+--     attack_is, level_held, level_released   its level: of the attack, or from a key-up on of the release
+--     frame_before, frame_put                 frames before a key-up
+--     frame_capped                            frames counted from 4,294,967,295 at most
+--     both_frames                             what holds of two frames that are over and of two that sound, of every frame by two chains
 -- Assumes nothing.
 use Prim.Native.Nat.{ℕ, ◌+◌, ◌≤◌, ◌<◌, min}
 use mathlib.Core.Bool.{Bool, true, false, cond}

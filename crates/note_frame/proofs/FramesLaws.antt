@@ -1,9 +1,9 @@
 -- Frames in order, their values by turns, and how many of them aren't over.
---     frames-shift, frames-same, frames-silent                  frames that are the same, or all silent
---     frames-none, -length, -join, -split, -next                how many there are, and those that follow others
---     interleaved-length, -frames, -half                        their values, two for each
---     interleaved-join, -silent, -none, -next                   those of frames that follow others, are silent, or one more
---     sounding-join, -silent, -all, -none                       how many of them aren't over
+--     frames_shift, frames_same, frames_silent                  frames that are the same, or all silent
+--     frames_none, -length, -join, -split, -next                how many there are, and those that follow others
+--     interleaved_length, -frames, -half                        their values, two for each
+--     interleaved_join, -silent, -none, -next                   those of frames that follow others, are silent, or one more
+--     sounding_join, -silent, -all, -none                       how many of them aren't over
 -- Assumes nothing.
 use Prim.Native.Nat.{ℕ, zero, suc, ◌+◌, ◌-◌, ◌*◌, ◌/◌, ◌≤◌, ◌<◌}
 use mathlib.Core.Bool.{true}

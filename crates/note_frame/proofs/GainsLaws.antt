@@ -1,13 +1,13 @@
 -- What doesn't change from frame to frame: no factor is above 65,536 nor the velocity above 127, and a fade needs a sequence and ends with its path.
---     gains-bounded                  no factor is above 65,536, nor the velocity above 127
---     gains-stereo                   each side has its own samples exactly if the channel says so
---     gains-fade, gains-no-fade      a fade ends with the path of the sequence; without a sequence there is none
---     gains-unfaded, gains-faded     the gains by what the voice has: no proof past this file unfolds `gains_of`
---     frame-gains                    a frame by the gains of a voice is the frame
---     fade-there, no-fade            what the sheet answers is the voice's fade
---     unfaded-is                     volume and shares, as the code puts them together
---     fade-sequence                  the segments that a fade needs
---     octave-length                  the length of segments in an octave, as the code computes it
+--     gains_bounded                  no factor is above 65,536, nor the velocity above 127
+--     gains_stereo                   each side has its own samples exactly if the channel says so
+--     gains_fade, gains_no_fade      a fade ends with the path of the sequence; without a sequence there is none
+--     gains_unfaded, gains_faded     the gains by what the voice has: no proof past this file unfolds `gains_of`
+--     frame_gains                    a frame by the gains of a voice is the frame
+--     fade_there, no_fade            what the sheet answers is the voice's fade
+--     unfaded_is                     volume and shares, as the code puts them together
+--     fade_sequence                  the segments that a fade needs
+--     octave_length                  the length of segments in an octave, as the code computes it
 -- Assumes nothing.
 use Prim.Native.Nat.{ℕ, ◌*◌, ◌≤◌, ◌<◌, ◌^◌, min}
 use mathlib.Core.Bool.{Bool, true, false}

@@ -1,7 +1,7 @@
 -- The shares of the sides: of one channel the pan's where there is one, else the channel's, and none above 65,536.
---     two-channels, one-channel     a side each, else by the pan, else by the channel: but for worked examples no other proof unfolds `shares_of`
---     SharesHeld, shares-held       no share is above 65,536
---     shares-answered               the shares by what the sheet answers are those of the voice
+--     two_channels_lem, one_channel_lem  a side each, else by the pan, else by the channel: but for worked examples no other proof unfolds `shares_of`
+--     SharesHeld, shares_held       no share is above 65,536
+--     shares_answered               the shares by what the sheet answers are those of the voice
 -- Assumes nothing.
 use Prim.Native.Nat.{◌≤◌}
 use mathlib.Core.Bool.{false}

@@ -1,7 +1,7 @@
 -- The segments ahead of a step, of which the first is taken off and passed by until one has the step.
---     Ahead, Ends, ends, ahead-here, ahead_past, ahead_none     a list of segments ahead: its first has a step or is passed by
---     Rest, rest_of, rest-past, rest-here                       the same for the segments from a place of the part on
---     rest-found, rest_end                                      the run where the first has step q, or none is left
+--     Ahead, Ends, ends, ahead_here, ahead_past, ahead_none     a list of segments ahead: its first has a step or is passed by
+--     Rest, rest_of, rest_past, rest_here                       the same for the segments from a place of the part on
+--     rest_found, rest_end                                      the run where the first has step q, or none is left
 -- Assumes nothing.
 use Prim.Native.Nat.{ℕ, ◌+◌, ◌-◌, ◌*◌, ◌≤◌, ◌<◌}
 use mathlib.Core.Bool.{true}

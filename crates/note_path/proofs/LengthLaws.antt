@@ -1,12 +1,12 @@
 -- Segments joined: how long they are, which steps have a place, and what it says that they are valid.
---     scaled-length                                               offsets times `scale` make the length times `scale`
+--     scaled_length                                               offsets times `scale` make the length times `scale`
 --     length-take                                                 the first of them are no longer than all
---     lengthFrom, from_start, from-none, from_end, from_first     their length up to 2^32, added up one by one
---     steps-none, steps-here, steps-past                          where a step lies: nowhere, in the first of them, or in those after it
---     path-ends, sequence-ends                                    a step that has a place lies before the path's end
---     valid-all, valid-past, valid-refused                        none; one that is valid, or not, and those after it
---     valid-order                                                 valid segments lie within the highest octave
---     take-all-segments                                           a part has no more segments than bytes
+--     length_from, from_start, from_none, from_end, from_first    their length up to 2^32, added up one by one
+--     steps_none, steps_here, steps_past                          where a step lies: nowhere, in the first of them, or in those after it
+--     path_ends, sequence_ends                                    a step that has a place lies before the path's end
+--     valid_all, valid_past, valid_refused                        none; one that is valid, or not, and those after it
+--     valid_order                                                 valid segments lie within the highest octave
+--     take_all_segments                                           a part has no more segments than bytes
 -- Assumes nothing.
 use Prim.Native.Nat.{ℕ, zero, suc, ◌+◌, ◌-◌, ◌*◌, ◌≤◌, ◌<◌, ◌^◌, min}
 use mathlib.Core.Bool.{Bool, true, false, cond, ◌&&◌, and-eq-true_iff}

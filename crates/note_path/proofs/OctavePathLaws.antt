@@ -1,7 +1,7 @@
 -- The path of octave k, and that the numbers that `path_of` makes are those of it.
---     path-sequence, path-samples, path-loop     by what the voice has: no other law unfolds `path_of`
---     path-none                                  with no octave: all samples are a one-shot part
---     octave-fits, path-some                     with one: its parts lie within the samples, after the octaves before it
+--     path_sequence, path_samples, path_loop     by what the voice has: no other law unfolds `path_of`
+--     path_none                                  with no octave: all samples are a one-shot part
+--     octave_fits, path_some                     with one: its parts lie within the samples, after the octaves before it
 -- Assumes nothing.
 use Prim.Native.Nat.{ℕ, ◌+◌, ◌-◌, ◌*◌, ◌≤◌, ◌^◌}
 use mathlib.Core.Bool.{Bool, true, false}

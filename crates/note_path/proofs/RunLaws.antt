@@ -1,7 +1,7 @@
 -- What a run says of the path, and the run before the first step.
---     place-sequence, place-loop              the path in numbers is that of the sequence, or that of the loop
---     run-front                               the run before the first step is good
---     reached-good, reached-later             a run that has been led to step q is good, and has begun by any later step
+--     place_sequence, place_loop              the path in numbers is that of the sequence, or that of the loop
+--     run_front                               the run before the first step is good
+--     reached_good, reached_later             a run that has been led to step q is good, and has begun by any later step
 -- Assumes nothing.
 use Prim.Native.Nat.{ℕ, ◌≤◌}
 use mathlib.Core.Bool.{true, false}

@@ -1,8 +1,8 @@
 -- How the segments of a sequence lie in a part of a sheet, from one place to the next. No other law of paths looks at the bytes.
---     segments-end                                   none from the part's end on
---     Stands, stands-next, segments-same             a place where a segment begins, or the part's end; the bytes before it hold none
---     segment-here, segment-long, segment-past       at such a place: the segment, its bytes and those past it
---     stands-past, past_after, past-segments         from such a place to the next: the segment and those from there on
+--     segments_end                                   none from the part's end on
+--     Stands, stands_next, segments_same             a place where a segment begins, or the part's end; the bytes before it hold none
+--     segment_here, segment_long, segment_past       at such a place: the segment, its bytes and those past it
+--     stands_past, past_after, past_segments         from such a place to the next: the segment and those from there on
 -- Assumes nothing.
 use Prim.Native.Nat.{ℕ, ◌+◌, ◌≤◌, ◌<◌}
 use mathlib.Core.List.{List, [], ◌∷◌, map}

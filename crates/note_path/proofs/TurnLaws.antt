@@ -1,6 +1,6 @@
 -- The turns of a loop: the one-shot part and the first turn lie side by side, and so does each turn after them.
---     loop-once                             a loop that is n samples once
---     turn-first, turn-none, turn-later     the run that has step q: the first turn; none, without a repeat part; a later turn
+--     loop_once                             a loop that is n samples once
+--     turn_first, turn_none, turn_later     the run that has step q: the first turn; none, without a repeat part; a later turn
 -- Assumes nothing.
 use Prim.Native.Nat.{ℕ, zero, suc, ◌+◌, ◌-◌, ◌*◌, ◌/◌, ◌%◌, ◌≤◌, ◌<◌}
 use mathlib.Core.Bool.{Bool, true, false, true≢false}

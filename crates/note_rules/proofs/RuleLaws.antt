@@ -1,10 +1,10 @@
 -- The rules of a fill, by their parts, and by the frames filled.
---     rules-are, rules-numbered                      all of them: none has the number 0
---     sequence-numbered .. speed-numbered            nor has one of a part
+--     rules_are, rules_numbered                      all of them: none has the number 0
+--     sequence_numbered .. speed_numbered            nor has one of a part
 --     NoneOf, none_of                                where none holds, none of a part does
---     NotAhead, not-ahead, never-ahead               a key-up that isn't ahead of the frames filled
---     is_none, past-most, within-most                a number that has to be from 1 to a limit
---     rules-capped                                   from past 4,294,967,295 frames on the rules stay as they are there
+--     NotAhead, not_ahead, never_ahead               a key-up that isn't ahead of the frames filled
+--     is_none, past_most, within_most                a number that has to be from 1 to a limit
+--     rules_capped                                   from past 4,294,967,295 frames on the rules stay as they are there
 -- Assumes nothing.
 use Prim.Native.Nat.{ℕ, ◌≤◌, ◌<◌, min}
 use mathlib.Core.Bool.{true, false, ◌||◌}

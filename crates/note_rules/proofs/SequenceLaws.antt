@@ -1,9 +1,9 @@
 -- The rules of a sequence, by what the code knows of it: the bytes between two places of the sheet, and what may be missing.
---     part-order, part-within         the places lie in the sheet, one after the other
---     part-segments, part-whole       the bytes between them hold the segments, none is cut off
---     beside-is, count-is, miss-is    the rules by the answers of the code are the rules
---     not-below                       a number that isn't below another
---     long-by-quotient, long-if-any   what the code compares a length with: a quotient by 2 ^ k, which is 0 from k = 32 on
+--     part_order, part_within         the places lie in the sheet, one after the other
+--     part_segments, part_whole       the bytes between them hold the segments, none is cut off
+--     beside_is, count_is, miss_is    the rules by the answers of the code are the rules
+--     not_below                       a number that isn't below another
+--     long_by_quotient, long_if_any   what the code compares a length with: a quotient by 2 ^ k, which is 0 from k = 32 on
 -- Assumes nothing.
 use Prim.Native.Nat.{ℕ, ◌*◌, ◌/◌, ◌^◌, ◌≤◌, ◌<◌, min}
 use mathlib.Core.Bool.{Bool, true, false, not}

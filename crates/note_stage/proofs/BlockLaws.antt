@@ -1,5 +1,5 @@
 -- What a frame of a stage is, and that the cursors in hand say so.
---     stage-frame-is, stage-held, stage-ends      a stage's frame, and its level where the note goes on or is over past its points
+--     stage_frame_is, stage_held, stage_ends      a stage's frame, and its level where the note goes on or is over past its points
 --     frame_here                                  the frames by the cursors, as far as they say
 --     rest_over                                   where they say that the note is over, it stays so
 -- Assumes nothing.

@@ -1,6 +1,6 @@
 -- A block that is being written: the frames so far, and what is carried from run to run.
---     SoFar, so-far-none, -more             the frames up to the playhead are stored and sound, and the cursors follow
---     so-far-all, so-far-over               the block's end, and the first frame that is over
+--     SoFar, so_far_none, -more             the frames up to the playhead are stored and sound, and the cursors follow
+--     so_far_all, so_far_over               the block's end, and the first frame that is over
 --     suits, begins, ready                  what the frames of a run ask
 -- Assumes nothing.
 use Prim.Native.Nat.{ℕ, ◌+◌, ◌-◌, ◌*◌, ◌/◌, ◌≤◌, ◌<◌}

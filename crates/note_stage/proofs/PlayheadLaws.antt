@@ -1,8 +1,8 @@
 -- A playhead that stands at a frame.
---     place-small, ms-small, runs_on        its place and its milliseconds fit, and its clock can go on
---     stands-more                           one frame on it stands there
---     step-here, ms-here                    its step and its milliseconds are the frame's
---     step-later, ms-later                  those of a later frame are no smaller
+--     place_small, ms_small, runs_on        its place and its milliseconds fit, and its clock can go on
+--     stands_more                           one frame on it stands there
+--     step_here, ms_here                    its step and its milliseconds are the frame's
+--     step_later, ms_later                  those of a later frame are no smaller
 -- Assumes nothing.
 use Prim.Native.Nat.{ℕ, ◌+◌, ◌-◌, ◌*◌, ◌/◌, ◌≤◌, ◌<◌, ◌^◌}
 use mathlib.Core.Path.{◌≡◌, ap}

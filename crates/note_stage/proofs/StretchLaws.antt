@@ -1,9 +1,9 @@
 -- A stretch of frames, before a step and before a time.
---     goes-if, goes-not-steps, goes-not-block              the loop's test by its three comparisons
---     in_block, in-steps, in-level                         what it says where it holds
---     stretch-one, stretch-as                              one frame; and frames that are the same by another name
---     Stretching, stretching-none, -more, -done            the invariant of a loop that writes stretches
---     stretching-length, -room, -again                     what it says of the buffer, and that one more may follow
+--     goes_if, goes_not_steps, goes_not_block              the loop's test by its three comparisons
+--     in_block, in_steps, in_level                         what it says where it holds
+--     stretch_one, stretch_as                              one frame; and frames that are the same by another name
+--     Stretching, stretching_none, -more, -done            the invariant of a loop that writes stretches
+--     stretching_length, -room, -again                     what it says of the buffer, and that one more may follow
 -- Assumes nothing.
 use Prim.Native.Nat.{ℕ, ◌+◌, ◌-◌, ◌*◌, ◌/◌, ◌≤◌, ◌<◌}
 use mathlib.Core.Bool.{Bool, true, false, true≢false, ◌&&◌, and-eq-true_iff}

@@ -1,12 +1,12 @@
 -- Parts lie within what they are parts of, the octaves of a whole side are all there, and the two parts of an octave joined are the octave.
---     octave-within, side-within, one-shot-within, repeat-within         a part lies within its slice
---     octave-whole, octave-sole, octave-past, octave-short, octave-at    an octave by cases
---     octave-there                                                       an octave of a side that has all samples
---     through-pos, octave-fits, octave-exceeds                           an octave's end compared by a quotient
---     front-whole, front-short, front_at                                 a side by cases
---     side-told                                                          the part of a buffer that a side is
---     start-within, split-joined                                         the two parts of an octave
---     part_same, part_none, part-samples                                 of slices of one length, of none, and of samples
+--     octave_within, side_within, one_shot_within, repeat_within         a part lies within its slice
+--     octave_whole, octave_sole, octave_past, octave_short, octave_at    an octave by cases
+--     octave_there                                                       an octave of a side that has all samples
+--     through_pos, octave_fits, octave_exceeds                           an octave's end compared by a quotient
+--     front_whole, front_short, front_at                                 a side by cases
+--     side_told                                                          the part of a buffer that a side is
+--     start_within, split_joined                                         the two parts of an octave
+--     part_same, part_none, part_samples                                 of slices of one length, of none, and of samples
 -- Assumes nothing.
 use Prim.Native.Nat.{ℕ, ◌+◌, ◌-◌, ◌*◌, ◌/◌, ◌^◌, ◌≤◌, ◌<◌}
 use mathlib.Core.Bool.{Bool, true, false, cond}

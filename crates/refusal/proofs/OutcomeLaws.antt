@@ -1,8 +1,8 @@
 -- The answer and the buffer of an entry: where its input is refused, and where it gives an output of n elements that fits or doesn't.
---     output-fits, output-short                         of an output
---     outcome-refused, outcome_fits, outcome-short      of an outcome that is known by an equation
---     length-gives, length-refused                      what the length says of the outcome
---     room_for, room-gives                              the outcome that a writer finds room for
+--     output_fits, output_short                         of an output
+--     outcome_refused, outcome_fits, outcome_short      of an outcome that is known by an equation
+--     length_gives, length_refused                      what the length says of the outcome
+--     room_for, room_gives                              the outcome that a writer finds room for
 -- Assumes nothing.
 use mathlib.Core.Path.{◌≡◌, refl, ap}
 use mathlib.Core.List.{List}

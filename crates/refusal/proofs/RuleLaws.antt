@@ -1,16 +1,16 @@
 -- The first rule that holds. 0 stands for none, so these are about rules that have other numbers.
 --     Passed                       the first that holds is the first of those after n rules
---     first-none                   of no rules
---     first-here, first-later      of a rule before others: that rule where it holds, else the first of the others
---     first-stands, first-join     of two lists joined: of the first list where one of it holds, else of the second
---     none-holds, first_holds      none holds where it is 0, else one with that number does
---     none-parts, none-join        of two lists joined none holds exactly if none of either does
---     holds-either, none-not       of two lists joined one that holds is of either; none is where none holds
+--     first_none                   of no rules
+--     first_here, first_later      of a rule before others: that rule where it holds, else the first of the others
+--     first_stands, first_join     of two lists joined: of the first list where one of it holds, else of the second
+--     none_holds, first_holds      none holds where it is 0, else one with that number does
+--     none_parts, none_join        of two lists joined none holds exactly if none of either does
+--     holds_either, none_not       of two lists joined one that holds is of either; none is where none holds
 --     none_first                   where none holds it is 0
---     numbered-join                two lists joined
---     numbered-by                  by a test of the numbers
+--     numbered_join                two lists joined
+--     numbered_by                  by a test of the numbers
 --     by_number, by_zero           what an outcome says of the number
---     answered-by                  the answer with a buffer: the first of all rules, 20 last
+--     answered_by                  the answer with a buffer: the first of all rules, 20 last
 -- Assumes nothing.
 use Prim.Native.Nat.{ℕ}
 use mathlib.Core.Bool.{Bool, true, false, cond, not, ◌&&◌}

@@ -1,10 +1,10 @@
 -- The largest magnitude, and the first place that has it.
---     none-louder                                    no sample is louder
---     loudest-more                                   of one sample more
---     first-most, first-has, first-before            what the first place with a magnitude is
---     first-here, first_on, first-is                 that place by what samples say: the search cites these, and no definition
---     loudest-part, first-no-earlier, first-in-part  of a part more
---     loudest-there, peak-none, peak-is              the peak
+--     none_louder                                    no sample is louder
+--     loudest_more                                   of one sample more
+--     first_most, first_has, first_before            what the first place with a magnitude is
+--     first_here, first_on, first_is                 that place by what samples say: the search cites these, and no definition
+--     loudest_part, first_no_earlier, first_in_part  of a part more
+--     loudest_there, peak_none, peak_is              the peak
 -- Assumes nothing.
 use mathlib.Core.Bool.{Bool, true, false, cond}
 use mathlib.Core.List.{List, [], ◌∷◌, ◌++◌}

@@ -1,8 +1,8 @@
 -- A form: how values are written and read, so that each undoes the other. From the form of one body come those of a group and of
 -- the groups of one kind, by recursion on lists.
---     field-form, byte-form           one body: of fixed length, and of one byte
---     alone-form, gathered-form       one group: a record without members, and members alone
---     list-form, once-form            the groups of a kind that may come again, and of one that may not
+--     field_form, byte_form           one body: of fixed length, and of one byte
+--     alone_form, gathered_form       one group: a record without members, and members alone
+--     list_form, once_form            the groups of a kind that may come again, and of one that may not
 -- Assumes nothing.
 use Prim.Native.Nat.{ℕ, ◌≤◌, ◌<◌}
 use mathlib.Core.Bool.{true, false, true≢false}

@@ -1,6 +1,6 @@
 -- The groups that are read from groups one after another are those groups: a group's members stand right after it, and the record
 -- after them opens another group.
---     groups-sections     the groups of one kind
+--     groups_sections     the groups of one kind
 -- Assumes nothing.
 use Prim.Native.Nat.{ℕ, ◌≤◌, ◌<◌}
 use mathlib.Core.Bool.{Bool, true, false, cond, ◌||◌, true≢false}

@@ -1,6 +1,6 @@
 -- No record is wrong exactly if each is correct by itself, by kind, length and value, and stands where it may.
---     none-wrong         of correct records in order, none is wrong
---     sheet-accepted     of a sheet of bytes without a wrong record: its records are correct, of bytes, in order, and are the sheet
+--     none_wrong         of correct records in order, none is wrong
+--     sheet_accepted     of a sheet of bytes without a wrong record: its records are correct, of bytes, in order, and are the sheet
 -- Assumes nothing.
 use Prim.Native.Nat.{ℕ, ◌<◌}
 use mathlib.Core.Bool.{Bool, true, false, cond, ◌||◌}

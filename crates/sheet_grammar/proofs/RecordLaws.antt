@@ -1,6 +1,6 @@
 -- Records and their bytes. A list of whole records is what its bytes are read as; and what a sheet is read as is the sheet, cut into records.
---     records-back     of whole records
---     records-cut      of any sheet; a bad record's number is not 0
+--     records_back     of whole records
+--     records_cut      of any sheet; a bad record's number is not 0
 -- Assumes nothing.
 use Prim.Native.Nat.{ℕ, zero, suc, ◌≤◌, ◌<◌}
 use mathlib.Core.Bool.{Bool, true, false, cond}

@@ -1,7 +1,7 @@
 -- Correct records in order are the groups that are read from them, one after another: records that come first belong to the group in
 -- hand, and after a record that opens a group none comes that opens an earlier one.
---     regroup-all                    the groups' records are the records
---     groups-listed, header-there    of a kind that may not come again there is one at most, and of headers one at least
+--     regroup_all                    the groups' records are the records
+--     groups_listed, header_there    of a kind that may not come again there is one at most, and of headers one at least
 -- Assumes nothing.
 use Prim.Native.Nat.{ℕ, ◌≤◌, ◌<◌}
 use mathlib.Core.Bool.{Bool, true, false, cond, not, ◌||◌, true≢false}

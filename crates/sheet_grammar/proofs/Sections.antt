@@ -1,7 +1,7 @@
 -- Records as groups: a record that opens a group, with its members, and the groups of each kind one after another.
---     sections-all         what holds of the groups' records, by the groups
---     sections-bytes       their bytes, by the groups
---     sections-ordered     groups in the order of their kinds are in order
+--     sections_all         what holds of the groups' records, by the groups
+--     sections_bytes       their bytes, by the groups
+--     sections_ordered     groups in the order of their kinds are in order
 -- Assumes nothing.
 use Prim.Native.Nat.{ℕ, suc, ◌≤◌, ◌<◌}
 use mathlib.Core.Bool.{Bool, true, false}

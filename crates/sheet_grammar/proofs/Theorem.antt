@@ -1,6 +1,6 @@
 -- Judging accepts a sheet exactly if it is the flat form of an allowed voice, and that voice is unique.
---     judged-flat, read-flat       an allowed voice in flat form is accepted, and reads as that voice
---     flat-read, allowed-read      a sheet of bytes that is accepted reads as an allowed voice, whose flat form it is
+--     judged_flat, read_flat       an allowed voice in flat form is accepted, and reads as that voice
+--     flat_read, allowed_read      a sheet of bytes that is accepted reads as an allowed voice, whose flat form it is
 --     unique                       two allowed voices of one flat form are one
 -- Assumes nothing.
 use Prim.Native.Nat.{ℕ}

@@ -1,7 +1,7 @@
 -- A voice as groups, part by part.
---     flat-bytes                                        the bytes of the groups that are written for a voice are its flat form
---     groups-written, texts-well-formed, voice-back     of an allowed voice: those groups are correct and read as that voice
---     groups-again, voice-allowed                       of groups that were read: they are written again, and their voice is allowed
+--     flat_bytes                                        the bytes of the groups that are written for a voice are its flat form
+--     groups_written, texts_well_formed_lem, voice_back  of an allowed voice: those groups are correct and read as that voice
+--     groups_again, voice_allowed                       of groups that were read: they are written again, and their voice is allowed
 -- Assumes nothing.
 use Prim.Native.Nat.{ℕ, ◌<◌}
 use mathlib.Core.Bool.{true, and-eq-true_iff}

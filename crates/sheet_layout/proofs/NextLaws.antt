@@ -1,8 +1,8 @@
 -- From a place of a part on, where the next member begins: the bytes before it open groups and hold no member.
---     next_here, next-passed, next-end                      at a member, before another byte, and at the part's end
---     next-after, next-within, next-stands, next-same       where the next member lies; the members from there on are the same
---     member-here, member-long, member-whole                where a member stands: its body and the members past it
---     members-end                                           none from the part's end on
+--     next_here, next_passed, next_end                      at a member, before another byte, and at the part's end
+--     next_after, next_within, next_stands, next_same       where the next member lies; the members from there on are the same
+--     member_here, member_long, member_whole                where a member stands: its body and the members past it
+--     members_end                                           none from the part's end on
 -- Assumes nothing.
 use Prim.Native.Nat.{ℕ, suc, ◌+◌, ◌≤◌, ◌<◌, zero-le}
 use lib.Dec.{eqb}

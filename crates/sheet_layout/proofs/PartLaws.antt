@@ -1,7 +1,7 @@
 -- The parts of a voice in its flat form: what stands from each part's place on, and that the passes over the parts end at the places.
 -- The parts follow one another, and no part begins with a kind of the part before it.
---     at-header, at-channel .. at-fade       the bytes from a part's place on: the part, and the parts after it
---     pass-channel .. pass-fade              a pass over a part ends at the next one's place
+--     at_header, at_channel .. at_fade       the bytes from a part's place on: the part, and the parts after it
+--     pass_channel .. pass_fade              a pass over a part ends at the next one's place
 -- Assumes nothing.
 use Prim.Native.Nat.{ℕ, suc, ◌+◌}
 use lib.Dec.{eqb}

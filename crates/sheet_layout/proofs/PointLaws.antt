@@ -1,8 +1,8 @@
 -- The points and the segments of a sound sheet, read off the bytes between the places of its layout, are those of its voice.
 --     places                                           the places follow one another and lie in the sheet
---     attack-points, release-points                    the points of its envelopes
---     sequence-there, no-sequence                      the segments of its sequence, where it has one
---     attacks-whole, releases-whole, sequence-whole    no point or segment is cut off
+--     attack_points, release_points                    the points of its envelopes
+--     sequence_there, no_sequence                      the segments of its sequence, where it has one
+--     attacks_whole, releases_whole, sequence_whole    no point or segment is cut off
 -- Assumes nothing.
 use Prim.Native.Nat.{ℕ, ◌+◌, ◌-◌, ◌≤◌}
 use mathlib.Core.List.{List, [], ◌++◌, map}

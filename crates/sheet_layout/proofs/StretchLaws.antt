@@ -1,10 +1,10 @@
 -- Runs of records at the front of the bytes: one record more, the end, and whole parts of a flat voice.
---     stretch-open, stretch-member, stretch-end   the first record of a run, and the end of the run
---     starts-past, starts-own, starts_other       what a place and its byte say of the bytes from there on
---     run-open, run-member, run_end               a run from a place on, before and after its next record
---     starts-each, starts-there                   parts that begin with another kind, or are empty
---     one-there                                   a record that may be missing is passed exactly
---     groups-passed, group-passed                 groups are passed exactly
+--     stretch_open, stretch_member, stretch_end   the first record of a run, and the end of the run
+--     starts_past, starts_own, starts_other       what a place and its byte say of the bytes from there on
+--     run_open, run_member, run_end               a run from a place on, before and after its next record
+--     starts_each, starts_there                   parts that begin with another kind, or are empty
+--     one_there                                   a record that may be missing is passed exactly
+--     groups_passed, group_passed                 groups are passed exactly
 -- Assumes nothing.
 use Prim.Native.Nat.{ℕ, suc, ◌+◌, ◌-◌, ◌≤◌, ◌<◌}
 use lib.Dec.{eqb}

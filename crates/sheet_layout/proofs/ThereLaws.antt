@@ -1,10 +1,10 @@
 -- A part that may be missing: where two places are one it is missing, and where they differ it stands at the first of them.
 --     missing, present                                          of any part
---     present-read                                              what stands there reads as the part
---     channel-byte                                              the byte of a channel that is there
---     channel-missing, pan-missing, fade-missing                of the parts of a voice, by its layout
---     channel-present, pan-present, fade-present
---     sequence-missing, sequence-within, sequence-counted       a sequence by the bytes that it takes
+--     present_read                                              what stands there reads as the part
+--     channel_byte                                              the byte of a channel that is there
+--     channel_missing, pan_missing, fade_missing                of the parts of a voice, by its layout
+--     channel_present, pan_present, fade_present
+--     sequence_missing, sequence_within, sequence_counted       a sequence by the bytes that it takes
 -- Assumes nothing.
 use Prim.Native.Nat.{ℕ, suc, ◌+◌, ◌-◌, ◌*◌, ◌/◌, ◌≤◌}
 use lib.Dec.{lit<}

@@ -1,7 +1,7 @@
 -- The text of a chunk: that there is one or none, how it is written, and how long; and the texts of the items, one chunk at a time.
---     key-none, key-most     the key of a name that is no text's, and of any
---     text-cases             what holds of no text, and of one with a key and bytes, holds of `text_of`
---     all-texts              what holds of the text of every payload holds of all texts
+--     key_none, key_most     the key of a name that is no text's, and of any
+--     text_cases             what holds of no text, and of one with a key and bytes, holds of `text_of`
+--     all_texts              what holds of the text of every payload holds of all texts
 -- No proof elsewhere unfolds `text_of` and `texts_of`.
 -- Assumes nothing.
 use Prim.Native.Nat.{ℕ, zero, suc, ◌+◌, ◌*◌, ◌≤◌}

@@ -1,7 +1,7 @@
 -- The voice that a FORM's chunks say: a sheet can hold it, its texts are tidy, and how long its sheet is.
---     form-allowed     every number fits its field, and texts have a key and are UTF-8
---     form-tidy        no text has anything to cut or to trim
---     sheet-bound      its sheet is at most 16 times as long as the FORM
+--     form_allowed     every number fits its field, and texts have a key and are UTF-8
+--     form_tidy        no text has anything to cut or to trim
+--     sheet_bound      its sheet is at most 16 times as long as the FORM
 -- Assumes nothing.
 use Prim.Native.Nat.{ℕ}
 use lib.Dec.{lit<}

@@ -1,6 +1,6 @@
 -- A voice's chunks and its flat form are of about one length, part by part.
---     chunks-bound     the chunks are eight times as long as the flat form, at most
---     flat-bound       the flat form is twice as long as the chunks, at most
+--     chunks_bound     the chunks are eight times as long as the flat form, at most
+--     flat_bound       the flat form is twice as long as the chunks, at most
 -- Assumes nothing.
 use Prim.Native.Nat.{ℕ, ◌+◌, ◌*◌, ◌≤◌, zero-le}
 use lib.ListN.{length, length-append}

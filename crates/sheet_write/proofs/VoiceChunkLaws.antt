@@ -1,5 +1,5 @@
 -- The chunks of a sheet's records are those of the voice that it says.
---     chunks-voice     of a sound sheet
+--     chunks_voice     of a sound sheet
 -- Assumes nothing.
 use Prim.Native.Nat.{ℕ}
 use mathlib.Core.List.{List, [], ◌∷◌, map, append_assoc, append-nil}

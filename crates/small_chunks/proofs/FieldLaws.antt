@@ -1,8 +1,8 @@
 -- The four records and their bytes: how many they are, that what was written reads back whatever follows it, and that what was read writes back.
---     point-length, segment-length, pan-length, fade-length     6, 8, 4 and 4
---     point-back, segment-back, pan-back, fade-back             of a record whose fields fit, the bytes read as that record
---     point-take, segment-take                                  a point or a segment is read off its own bytes alone
---     point-again, segment-again, pan-again, fade-again         of bytes, the record writes as those bytes
+--     point_length, segment_length_lem, pan_length, fade_length  6, 8, 4 and 4
+--     point_back, segment_back, pan_back, fade_back             of a record whose fields fit, the bytes read as that record
+--     point_take, segment_take                                  a point or a segment is read off its own bytes alone
+--     point_again, segment_again, pan_again, fade_again         of bytes, the record writes as those bytes
 -- Each follows from the laws of one number (`number_back`, `number_bytes`), of one signed number (`signed_back`, `signed_again`) and of two numbers in a row.
 -- Assumes nothing.
 use mathlib.Core.Path.{◌≡◌, ap, ◌∙◌}

@@ -1,6 +1,6 @@
 -- What the shares of a pan position are worth: left is the position, held within 0..65,536, over 65,536, and right is what is left of 1, both with no rounding. So the two make 1.
---     held-is      the held position by the positive part of the number: no other proof unfolds `held_to_unity`
---     held-le      it is at most 65,536
+--     held_is      the held position by the positive part of the number: no other proof unfolds `held_to_unity`
+--     held_le      it is at most 65,536
 -- `HasValue x s a c` says that x is finite, has the sign s and is a / c in size. Assumes nothing.
 use mathlib.Core.Path.{◌≡◌, refl, sym, subst}
 use mathlib.Core.Bool.{false}

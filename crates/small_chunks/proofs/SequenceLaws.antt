@@ -1,7 +1,7 @@
 -- A segment is valid exactly where its four rules hold: `Playable` has them as facts, and no proof elsewhere takes `segment_valid` apart.
---     valid-of         a playable segment is valid
---     refused-of       one that is not playable is refused by 21
---     playable-of      a valid segment is playable
+--     valid_of         a playable segment is valid
+--     refused_of       one that is not playable is refused by 21
+--     playable_of      a valid segment is playable
 -- Assumes nothing.
 use mathlib.Core.Path.{◌≡◌, refl}
 use mathlib.Core.Bool.{Bool, true, false, cond, ◌&&◌, and-eq-true_iff}

@@ -1,9 +1,9 @@
 -- What stands of every payload.
---     clean-well-formed  its text is well-formed UTF-8
---     clean-tidy         its text is empty or tidy
---     clean-same         a payload that is well-formed and tidy is its own text
---     clean-bound        its text is at most three times as long
---     clean-len-exact    below 2 ^ 60 bytes `clean_len` answers the length itself
+--     clean_well_formed  its text is well-formed UTF-8
+--     clean_tidy         its text is empty or tidy
+--     clean_same         a payload that is well-formed and tidy is its own text
+--     clean_bound        its text is at most three times as long
+--     clean_len_exact    below 2 ^ 60 bytes `clean_len` answers the length itself
 -- Assumes nothing.
 use Prim.Native.Nat.{ℕ, ◌*◌, ◌^◌, ◌≤◌, ◌<◌, min}
 use lib.ListN.{length}

@@ -1,7 +1,7 @@
 -- What stands of every list of bytes.
---     lossy-well-formed  what replacement gives is well-formed
---     lossy-same         it leaves well-formed bytes as they are
---     fed-well           bytes fed one by one end between two scalar values exactly if they are well-formed
+--     lossy_well_formed  what replacement gives is well-formed
+--     lossy_same         it leaves well-formed bytes as they are
+--     fed_well           bytes fed one by one end between two scalar values exactly if they are well-formed
 -- Assumes nothing.
 use Prim.Native.Nat.{ℕ}
 use mathlib.Core.Bool.{true, false}

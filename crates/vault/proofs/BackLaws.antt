@@ -1,6 +1,6 @@
 -- Difference order and the way back undo each other, octave by octave.
---     restored-order, ordered-restore     an octave
---     order-length, restored-length, by_length     as long as what came in
+--     restored_order, ordered_restore     an octave
+--     order_length, restored_length, by_length     as long as what came in
 -- Assumes nothing.
 use mathlib.Core.Path.{◌≡◌, refl, ap, ap₂, ◌∙◌}
 use mathlib.Core.List.{List, [], ◌∷◌, ◌++◌}

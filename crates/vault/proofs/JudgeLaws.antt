@@ -1,8 +1,8 @@
 -- What the rules make of a channel: it is refused by the first that holds, or goes octave by octave through f.
---     by-refused, by-gives     by the number of the first rule that holds
---     given-none, given_is     the other way, of a channel that was not refused
---     none-suits               where no rule holds the length suits the header
---     each_long, each-wise, each-undone     what then is put out
+--     by_refused, by_gives     by the number of the first rule that holds
+--     given_none, given_is     the other way, of a channel that was not refused
+--     none_suits               where no rule holds the length suits the header
+--     each_long, each_wise, each_undone     what then is put out
 -- Assumes nothing.
 use Prim.Native.Nat.{ℕ, ◌≤◌}
 use mathlib.Core.Bool.{Bool, true, false}

@@ -1,7 +1,7 @@
 -- A buffer in two parts, each written from its front.
---     parted-first, parted-second     one store more, of the next element of the one or of the other part
---     parted-turn                     both
---     parted-whole                    in the end both parts, joined
+--     parted_first, parted_second     one store more, of the next element of the one or of the other part
+--     parted_turn                     both
+--     parted_whole                    in the end both parts, joined
 -- Assumes nothing.
 use mathlib.Core.Path.{◌≡◌, refl, sym, ap, ap₂, ◌∙◌}
 use mathlib.Core.List.{List, [], ◌∷◌, ◌++◌, append-nil}

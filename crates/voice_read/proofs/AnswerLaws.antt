@@ -1,8 +1,8 @@
 -- The lengths, the answer and the three buffers, by cases.
---     needed-refused, needed-gives                  the lengths of a reading, by those of its sides
---     lengths-refused, lengths-given                what a reading is, by its lengths
---     answer-refused, sheet-short .. answer-fits    the answer and the buffers after a call
---     outputs-room, outputs-written                 the outputs of a file that is read: they have room, and are its answer
+--     needed_refused, needed_gives                  the lengths of a reading, by those of its sides
+--     lengths_refused, lengths_given                what a reading is, by its lengths
+--     answer_refused, sheet_short .. answer_fits    the answer and the buffers after a call
+--     outputs_room, outputs_written                 the outputs of a file that is read: they have room, and are its answer
 -- Assumes nothing.
 use Prim.Native.Nat.{ℕ, ◌^◌, ◌≤◌, ◌<◌}
 use borrow.Author.Tests.{le-leb, lt-leb}

@@ -1,9 +1,8 @@
 -- What reading refuses and gives, by cases, and what holds of what it gives.
---     items-bad .. items-whole              the chunks of a FORM
---     head-short .. head-right              the first 12 bytes of a file
---     voice-refused, voice-form             a whole file
---     items-given, file-given               a reading is of chunks without a bad one, with a VHDR and a BODY
---     form-short, file-readable             of a file of bytes, the FORM's sheet can be written
+--     items_bad .. items_whole              the chunks of a FORM
+--     head_short .. head_right              the first 12 bytes of a file
+--     voice_refused, voice_form             a whole file
+--     items_given, file_given               a reading is of chunks without a bad one, with a VHDR and a BODY
 -- Assumes nothing.
 use Prim.Native.Nat.{ℕ, ◌≤◌, ◌<◌}
 use borrow.Author.Tests.{eq-eqb, ne_eqb, eqb-true, eqb-false, lt-ltb, le-ltb}

@@ -1,4 +1,4 @@
--- The voice of a file: readVoice.
+-- The voice of a file: read_voice.
 use Rattle.std.specs.Prelude.{ℕ, cond, List, eqb, ltb, length, take, drop}
 use Rattle.std.proofs.Math.Option.{Option, none, some}
 use Rattle.refusal.specs.Numbers.{file_short, not_form, not_8svx, no_header, no_body}

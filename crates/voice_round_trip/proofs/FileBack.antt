@@ -1,5 +1,5 @@
 -- A file that was written is walked as the chunks that it was written from.
---     file-read      reading the file of chunks is reading those chunks
+--     file_read      reading the file of chunks is reading those chunks
 -- Assumes nothing.
 use Prim.Native.Nat.{ℕ, ◌+◌, ◌^◌, ◌<◌}
 use mathlib.Core.List.{List, [], ◌++◌, append-nil}

@@ -1,6 +1,6 @@
 -- The chunks of a name, and the texts, among the chunks that are written for a voice.
---     first-all                 the first of a name is the first of all of that name
---     items-all, items-texts    all chunks of a name, and the texts, of the items
+--     first_all                 the first of a name is the first of all of that name
+--     items_all, items_texts    all chunks of a name, and the texts, of the items
 -- Assumes nothing.
 use Prim.Native.Nat.{ℕ}
 use mathlib.Core.Bool.{Bool, true, false, cond}

@@ -1,6 +1,6 @@
 -- No chunk that is written is bad: each has a right length, and those that come but once come once.
---     plain-right, channel-right     a payload is right
---     named-sound, texts-sound       chunks of one name, and texts, before others
+--     plain_right, channel_right     a payload is right
+--     named_sound, texts_sound       chunks of one name, and texts, before others
 -- Assumes nothing.
 use Prim.Native.Nat.{ℕ, ◌%◌, ◌≤◌}
 use mathlib.Core.Bool.{Bool, true, false, true≢false}

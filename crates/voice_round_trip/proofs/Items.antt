@@ -1,6 +1,6 @@
 -- The chunks that are written for a voice, as items. Their bytes are what the FORM holds past its type.
---     voiceItems, items-bytes     the items, and that their bytes are those of the writer
---     Chunks, items-chunks        every item is a chunk, whose name has four bytes
+--     voice_items, items_bytes    the items, and that their bytes are those of the writer
+--     Chunks, items_chunks        every item is a chunk, whose name has four bytes
 -- Assumes nothing.
 use Prim.Native.Nat.{ℕ, ◌^◌, ◌≤◌, ◌<◌}
 use mathlib.Core.List.{List, [], ◌∷◌, ◌++◌, map, append_assoc, append-nil}

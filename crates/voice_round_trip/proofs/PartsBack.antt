@@ -1,6 +1,6 @@
 -- Each part of a voice is read from the payload that it is written as; so the voice of the written chunks is the voice.
---     parts-back      parts of n bytes, joined, are cut into those parts
---     voice-back      the voice of the items that are written for it
+--     parts_back      parts of n bytes, joined, are cut into those parts
+--     voice_back      the voice of the items that are written for it
 -- Assumes nothing.
 use Prim.Native.Nat.{ℕ, ◌≤◌, ◌<◌}
 use mathlib.Core.Bool.{true}

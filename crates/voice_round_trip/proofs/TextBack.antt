@@ -1,6 +1,6 @@
 -- A text that is written, its name from its key and a zero byte after it, is read as that text.
---     name-key       the name of a key has that key
---     text-back      one text
+--     name_key       the name of a key has that key
+--     text_back      one text
 -- Assumes nothing.
 use Prim.Native.Nat.{ℕ, zero, suc, ◌≤◌}
 use mathlib.Core.Bool.{true, false, cond, false≢true}

@@ -1,6 +1,6 @@
 -- A file that the writer gave: what it accepted, and the chunks that the file holds.
 --     accepts                       the three tests of the writer, and the file
---     raw-body, contents-items      BODY uncompressed, and what the FORM holds
+--     raw_body, contents_items      BODY uncompressed, and what the FORM holds
 -- Assumes nothing.
 use Prim.Native.Nat.{ℕ, ◌^◌, ◌<◌}
 use mathlib.Core.Bool.{Bool, true, false, cond, ◌||◌, and-eq-true_iff}

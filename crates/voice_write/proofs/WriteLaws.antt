@@ -1,10 +1,10 @@
 -- Laws of a voice's file: its length, when it is refused, and what an accepted voice fulfils.
---     contents-length, file-length                                   how long the FORM's contents and the file are
---     left-bound, flat-within, right-within                          a side or a sheet that is too long makes a FORM that is
---     voice-unknown, voice-octaves, voice-unsuited, voice-suited     a voice by what is asked of it, in that order
---     held_fits, held-long                                           19 by the length of the contents
---     accepted, accepted-as                                          the other way
---     file-put                                                       the file, stored part by part
+--     contents_length, file_length                                   how long the FORM's contents and the file are
+--     left_bound, flat_within, right_within                          a side or a sheet that is too long makes a FORM that is
+--     voice_unknown, voice_octaves, voice_unsuited, voice_suited     a voice by what is asked of it, in that order
+--     held_fits, held_long                                           19 by the length of the contents
+--     accepted, accepted_as                                          the other way
+--     file_put                                                       the file, stored part by part
 -- No proof elsewhere looks into `contents`, `file_of` or `write_voice`.
 -- Assumes nothing.
 use Prim.Native.Nat.{ℕ, ◌+◌, ◌*◌, ◌%◌, ◌^◌, ◌≤◌, ◌<◌}

@@ -1,4 +1,4 @@
--- The file of a voice: writeVoice.
+-- The file of a voice: write_voice.
 use Rattle.std.specs.Prelude.{ℕ, ◌^◌, cond, List, ◌++◌, ltb, length}
 use Rattle.refusal.specs.Numbers.{octave_total, sample_lengths, form_length}
 use Rattle.refusal.specs.Outcome.{Outcome, gives, refuses}

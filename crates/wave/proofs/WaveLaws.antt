@@ -1,9 +1,9 @@
 -- Laws of an octave's file: how long it is, when it is refused, and what an octave with a file fulfils.
---     octaves-same                   sides that suit have octaves of one length
---     held-length                    how many bytes the RIFF holds
---     contents-are, rules-are        what it holds, and the rules, by their parts
---     wave-is                        the file by the rules, one after another
---     wave-refused, wave-length      the file by the rules before 19, and its length once they are passed
+--     octaves_same                   sides that suit have octaves of one length
+--     held_length                    how many bytes the RIFF holds
+--     contents_are, rules_are        what it holds, and the rules, by their parts
+--     wave_is                        the file by the rules, one after another
+--     wave_refused, wave_length      the file by the rules before 19, and its length once they are passed
 --     Accepted, accepted             all that is asked of an octave with a file
 -- No proof elsewhere looks into `octave_contents`, `wave_rules` or `octave_wave`.
 -- Assumes nothing.

@@ -1,4 +1,4 @@
--- An octave of a voice as a WAVE file: octaveWave, and octaveWaveOf for a sheet.
+-- An octave of a voice as a WAVE file: octave_wave, and octave_wave_of for a sheet.
 use Rattle.std.specs.Prelude.{ℕ, Bool, cond, not, List, [], ◌∷◌, ◌++◌, map, eqb, ltb, ℤ, pos, nat_abs, ◌+ℤ◌, length}
 use Rattle.laws.specs.Turns.{by_turns}
 use Rattle.refusal.specs.Numbers.{no_octave, voice_rate, form_length}

@@ -1,5 +1,5 @@
 use mathlib.Core.Path.{◌≡◌, sym, ◌∙◌}
-use Prim.Native.Nat.{◌+◌, ◌-◌}
+use Prim.Native.Nat.{◌+◌}
 use native.Mathlib.Omega.{arith}
 use Rattle.crossing.specs.Crossing.{is_below, unlike}
 use Rattle.crossing.proofs.SearchLaws.{found_after, found_none}

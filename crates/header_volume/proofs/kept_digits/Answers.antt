@@ -17,72 +17,33 @@ record Known (v u : ℕ) : Type 0 where
   quotient : v / u < 2 ^ 24
   remainder : v % u < u
 
-known : (c : goal.After-lowest_digit-u) → Known c.args.volume c.lowest_digit-u.result
-known c =
-    let v = c.args.volume in
-    let e : c.lowest_digit-u.result ≡ lowest_digit v = c.lowest_digit-u.ensures in
-    record {
-      is = e;
-      positive = rw e (digit_pos v);
-      small = rw e (digit_le v c.ranges.volume.fits);
-      quotient = rw e (quotient_lt v);
-      remainder = rw e (mod-lt v (digit_pos v));
-    }
-
-known_2 : (c : goal.Then-twice-u) → Known c.args.volume c.lowest_digit-u.result
-known_2 c =
-    let v = c.args.volume in
-    let e : c.lowest_digit-u.result ≡ lowest_digit v = c.lowest_digit-u.ensures in
-    record {
-      is = e;
-      positive = rw e (digit_pos v);
-      small = rw e (digit_le v c.ranges.volume.fits);
-      quotient = rw e (quotient_lt v);
-      remainder = rw e (mod-lt v (digit_pos v));
-    }
-
-known_3 : (c : goal.Then-twice-u-2) → Known c.args.volume c.lowest_digit-u.result
-known_3 c =
-    let v = c.args.volume in
-    let e : c.lowest_digit-u.result ≡ lowest_digit v = c.lowest_digit-u.ensures in
-    record {
-      is = e;
-      positive = rw e (digit_pos v);
-      small = rw e (digit_le v c.ranges.volume.fits);
-      quotient = rw e (quotient_lt v);
-      remainder = rw e (mod-lt v (digit_pos v));
-    }
-
-known_4 : (c : goal.Else-twice-u-2) → Known c.args.volume c.lowest_digit-u.result
-known_4 c =
-    let v = c.args.volume in
-    let e : c.lowest_digit-u.result ≡ lowest_digit v = c.lowest_digit-u.ensures in
-    record {
-      is = e;
-      positive = rw e (digit_pos v);
-      small = rw e (digit_le v c.ranges.volume.fits);
-      quotient = rw e (quotient_lt v);
-      remainder = rw e (mod-lt v (digit_pos v));
-    }
+known : (v u : ℕ) → v < 2 ^ 32 → u ≡ lowest_digit v → Known v u
+known v u fits e = record {
+  is = e;
+  positive = rw e (digit_pos v);
+  small = rw e (digit_le v fits);
+  quotient = rw e (quotient_lt v);
+  remainder = rw e (mod-lt v (digit_pos v));
+}
 
 pub nonzero_div-q : goal.nonzero_div-q
-nonzero_div-q c = (known c).positive
+nonzero_div-q c = (known _ _ c.ranges.volume.fits c.lowest_digit-u.ensures).positive
 
 pub nonzero_rem-twice : goal.nonzero_rem-twice
-nonzero_rem-twice c = (known c).positive
+nonzero_rem-twice c = (known _ _ c.ranges.volume.fits c.lowest_digit-u.ensures).positive
 
 pub overflow_mul-twice : goal.overflow_mul-twice
-overflow_mul-twice c = omega (arith, known c)
+overflow_mul-twice c = omega (arith, known _ _ c.ranges.volume.fits c.lowest_digit-u.ensures)
 
 pub returns-then-twice-u : goal.returns-then-twice-u
-returns-then-twice-u c = sym (closest_below _ _ c.if-twice-u.true) ∙ kept_is _ _ (known_2 c).is
+returns-then-twice-u c = sym (closest_below _ _ c.if-twice-u.true) ∙ kept_is _ _ c.lowest_digit-u.ensures
 
 pub returns-then-twice-u-2 : goal.returns-then-twice-u-2
-returns-then-twice-u-2 c = sym (closest_tie _ _ c.if-twice-u-2.true) ∙ kept_is _ _ (known_3 c).is
+returns-then-twice-u-2 c = sym (closest_tie _ _ c.if-twice-u-2.true) ∙ kept_is _ _ c.lowest_digit-u.ensures
 
 pub returns : goal.returns
 returns c =
     let v = c.args.volume in
     let u = c.lowest_digit-u.result in
     let h : u < v % u * 2 = omega (arith, c.if-twice-u.false, lt_of_le-ne c.if-twice-u.false (λ e. c.if-twice-u-2.false (sym e))) in
-    add-one (v / u) ∙ sym (closest_above v u h) ∙ kept_is v u (known_4 c).is
+    add-one (v / u) ∙ sym (closest_above v u h) ∙ kept_is v u c.lowest_digit-u.ensures

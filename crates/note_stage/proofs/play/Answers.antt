@@ -1,13 +1,11 @@
-use Prim.Native.Nat.{◌-◌, ◌/◌, ◌<◌, ◌^◌}
+use Prim.Native.Nat.{◌-◌, ◌<◌, ◌^◌}
 use borrow.Author.Rules.{rules}
-use mathlib.Core.Bool.{false}
-use mathlib.Core.Path.{◌≡◌, sym, ◌∙◌}
+use mathlib.Core.Path.{sym, ◌∙◌}
 use native.Mathlib.Omega.{arith}
 use mir.Facts.{to_z-of_z}
 use mir.Syntax.{w32}
 use mir.Val.{SFits}
 use Rattle.note_envelope.proofs.CursorLaws.{stood}
-use Rattle.note_stage.specs.Block.{is_over}
 use Rattle.note_stage.proofs.PlayheadLaws.{ms_small, ms_here}
 use Rattle.note_stage.proofs.PlayLaws.{so_far_none, so_far_all, so_far_over, suits, begins, ready, so_far_more}
 use Rattle.note_stage.proofs.play.Goals as goal
@@ -39,30 +37,21 @@ returns-then-is_over c =
     so_far_over _ _ _ _ _ _ _ _ _ _ c.requires c.loop-h.invariant _ _ c.cursor_to-e.ensures c.run_to-r.ensures
     (sym c.is_over.ensures ∙ c.if-is_over.true)
 
--- the frame isn't over
-goes : (c : goal.After-play_run-arg-1) →
-    is_over c.args.stage.ends c.cursor_to-e.result c.run_to-r.result (c.loop-h.h.place / 65536) ≡ false
-goes c = sym c.is_over.ensures ∙ c.if-is_over.false
-
--- the frame isn't over
-goes_2 : (c : goal.After-out-1) →
-    is_over c.args.stage.ends c.cursor_to-e.result c.run_to-r.result (c.loop-h.h.place / 65536) ≡ false
-goes_2 c = sym c.is_over.ensures ∙ c.if-is_over.false
-
 pub play_run-h-requires : goal.play_run-h-requires
 play_run-h-requires c =
     let asked = c.requires in
     let k = c.loop-h.invariant in
     let moved = c.cursor_to-e.ensures in
-    let reached = c.run_to-r.ensures in (
-      suits _ _ _ _ _ _ _ _ _ _ asked k _ _ moved reached (goes c),
-      begins _ _ _ _ _ _ _ _ _ _ asked k _ _ moved reached (goes c),
-      ready _ _ _ _ _ _ _ _ _ _ asked k _ _ moved reached (goes c) c.loop-h-test.true,
+    let reached = c.run_to-r.ensures in
+    let goes = sym c.is_over.ensures ∙ c.if-is_over.false in (
+      suits _ _ _ _ _ _ _ _ _ _ asked k _ _ moved reached goes,
+      begins _ _ _ _ _ _ _ _ _ _ asked k _ _ moved reached goes,
+      ready _ _ _ _ _ _ _ _ _ _ asked k _ _ moved reached goes c.loop-h-test.true,
     )
 
 pub loop-h-preserved : goal.loop-h-preserved
 loop-h-preserved c =
-    so_far_more _ _ _ _ _ _ _ _ _ _ c.requires c.loop-h.invariant _ _ c.cursor_to-e.ensures c.run_to-r.ensures (goes_2 c) _ _ c.play_run-h.ensures
+    so_far_more _ _ _ _ _ _ _ _ _ _ c.requires c.loop-h.invariant _ _ c.cursor_to-e.ensures c.run_to-r.ensures (sym c.is_over.ensures ∙ c.if-is_over.false) _ _ c.play_run-h.ensures
 
 pub returns : goal.returns
 returns c = so_far_all _ _ _ _ _ _ _ _ _ _ c.requires c.loop-h.invariant c.loop-h-test.false
