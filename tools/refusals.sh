@@ -7,7 +7,7 @@
 set -eu
 cd "$(dirname "$0")/.."
 list=crates/refusal/refusals.txt
-files="crates/refusal/src/lib.rt crates/refusal/specs/Numbers.antt include/svx.h host/svx/src/refusal.rs"
+files="crates/refusal/src/lib.rt crates/refusal/specs/Refusal.antt include/svx.h host/svx/src/refusal.rs"
 scratch=$(mktemp -d)
 trap 'rm -rf "$scratch"' EXIT
 
@@ -32,17 +32,24 @@ length > 110 { bad("the words are too long for a line") }
 END { exit wrong }
 ' "$list"
 
-# One file with its part made anew: constants, definitions, arms, or (the header has two parts) lines of a comment and cases.
+# One file with its part made anew: variants, equations, arms, or (all but the Rust crate's have two parts) lines of a comment and cases.
 made() {
     awk '
     function words(    w) { w = $0; sub(/^[0-9]+ [A-Z0-9_]+ /, "", w); return w }
+    function variant(name,    parts, n, i, v) {
+        n = split(tolower(name), parts, "_")
+        for (i = 1; i <= n; i++) v = v toupper(substr(parts[i], 1, 1)) substr(parts[i], 2)
+        return v
+    }
     function sentence(w) { return toupper(substr(w, 1, 1)) substr(w, 2) "." }
     FNR == NR {
         if (/^#/ || /^$/) next
         count++
         w = words()
-        rt[count] = "// " sentence(w) "\npub const " $2 ": u8 = " $1 ";\n"
-        antt[count] = "-- " w "\nabbrev pub " tolower($2) " : ℕ\n" tolower($2) " = " $1 "\n"
+        rt[count] = "    // " sentence(w) "\n    " variant($2) " = " $1 ","
+        said[count] = "            Refusal::" variant($2) " =>" (length(w variant($2)) > 74 ? "\n                " : " ") "\"" w "\","
+        antt[count] = "-- " w "\nnumber_of " variant($2) " = " $1
+        names = names (count > 1 ? ", " : "") variant($2)
         note[count] = sprintf(" * %2d  %s", $1, w)
         arm[count] = "        " $1 " => \"" w "\","
         c[count] = "    case " $1 ": return \"" w "\";"
@@ -52,13 +59,13 @@ made() {
         print
         inside = 1
         parts++
-        if (kind == "rt" || kind == "antt") print ""
-        for (i = 1; i <= count; i++)
-            print kind == "rt" ? rt[i] : kind == "antt" ? antt[i] : kind == "rs" ? arm[i] : parts == 1 ? note[i] : c[i]
+        if (kind == "antt" && parts == 1) print "use Rattle.refusal.specs.declared.Refusal.TheVariants.{" names "}"
+        else for (i = 1; i <= count; i++)
+            print kind == "rt" ? (parts == 1 ? rt[i] : said[i]) : kind == "antt" ? antt[i] : kind == "rs" ? arm[i] : parts == 1 ? note[i] : c[i]
     }
-    /\} refusals\.txt/ { inside = 0; ends++ }
+    /\} refusals\.txt/ { if (kind == "antt") print ""; inside = 0; ends++ }
     !inside
-    END { exit parts != (kind == "h" ? 2 : 1) || ends != parts }
+    END { exit parts != (kind == "rs" ? 1 : 2) || ends != parts }
     ' "$list" kind="${1##*.}" "$1"
 }
 

@@ -9,21 +9,21 @@ use lib.IntN.{ℤ, pos}
 use lib.ListN.{length, take, drop, get_or, length-map, length-take, length-drop, get_or-map}
 use lib.Seq.{get_or-take, length-take-le}
 use Rattle.field.specs.BigEndian.{Bytes}
-use Rattle.refusal.specs.Numbers.{odd_halves, channel_short}
-use Rattle.refusal.specs.Outcome.{gives, refuses}
 use Rattle.field.specs.Signed.{twos_complement_bits, sample_of, byte_of}
 use Rattle.field.proofs.BigEndianLaws.{bytes_tail, bytes_take, bytes_drop}
 use Rattle.field.proofs.SignedLaws.{byte_sample}
 use Rattle.header.specs.Compression.{known_compression}
 use Rattle.header.specs.declared.compression.Compression.{Compression}
 use Rattle.header.specs.declared.compression.Compression.TheVariants.{None, Fibonacci}
-use Rattle.header.specs.declared.compression.KnownCompression.TheVariants.{Known, Refused}
 use Rattle.fibonacci.specs.Decode.{fib_samples}
 use Rattle.samples.specs.Stream.{stream}
 use Rattle.samples.specs.Halves.{left_half, right_half}
 use Rattle.laws.specs.Turns.{by_turns}
 use Rattle.body_decode.specs.Body.{frame_bytes, one_channel, two_channels, decoded_body}
 use Rattle.laws.proofs.TurnLaws.{by_turns_length}
+use Rattle.refusal.specs.declared.Refusal.TheVariants.{OddHalves, ChannelShort}
+use Rattle.refusal.specs.declared.Refusal.{Refusal}
+use Rattle.std.specs.Prelude.{Err, Ok}
 
 -- ---- at most so many
 
@@ -46,15 +46,15 @@ raw_frames (suc n) (b ∷ l) h = rw (byte_sample b (h 0), raw_frames n l (bytes_
 -- ---- one channel
 
 module _ (limit : ℕ) (body : List ℕ) where
-  pub one_raw_is : Bytes body → one_channel None limit body ≡ gives (take limit body)
+  pub one_raw_is : Bytes body → one_channel None limit body ≡ Ok (take limit body)
   unfolding one_channel stream
-  one_raw_is h = ap gives (raw_frames limit body h)
+  one_raw_is h = ap Ok (raw_frames limit body h)
 
-  pub one_short : length body < 2 → one_channel Fibonacci limit body ≡ refuses channel_short
+  pub one_short : length body < 2 → one_channel Fibonacci limit body ≡ Err ChannelShort
   unfolding one_channel stream
   one_short h = rw (lt-ltb (length body) 2 h)
 
-  pub one_fibonacci_is : 2 ≤ length body → one_channel Fibonacci limit body ≡ gives (frame_bytes limit (fib_samples body))
+  pub one_fibonacci_is : 2 ≤ length body → one_channel Fibonacci limit body ≡ Ok (frame_bytes limit (fib_samples body))
   unfolding one_channel stream
   one_fibonacci_is h = rw (le-ltb (length body) 2 h)
 
@@ -84,25 +84,25 @@ pub right_length : (body : List ℕ) → length (right_half body) ≡ length bod
 right_length body = rw (length-take, length-drop) (omega arith)
 
 module _ (limit : ℕ) (body : List ℕ) where
-  pub two_raw_is : Bytes body → two_channels None limit body ≡ gives (by_turns (take limit (left_half body)) (take limit (right_half body)))
+  pub two_raw_is : Bytes body → two_channels None limit body ≡ Ok (by_turns (take limit (left_half body)) (take limit (right_half body)))
   unfolding two_channels stream
   two_raw_is h =
       let left = raw_frames limit (left_half body) (bytes_take (length body / 2) body h) in
       let right = raw_frames limit (right_half body) (bytes_take (length body / 2) (drop (length body / 2) body) (bytes_drop (length body / 2) body h)) in
       rw (left, right)
 
-  pub two_odd : length body % 2 ≡ 1 → two_channels Fibonacci limit body ≡ refuses odd_halves
+  pub two_odd : length body % 2 ≡ 1 → two_channels Fibonacci limit body ≡ Err OddHalves
   unfolding two_channels
   two_odd e = rw e
 
   module _ (even : length body % 2 ≡ 1 → ⊥) where
-    pub two_short : length body / 2 < 2 → two_channels Fibonacci limit body ≡ refuses channel_short
+    pub two_short : length body / 2 < 2 → two_channels Fibonacci limit body ≡ Err ChannelShort
     unfolding two_channels stream
     two_short h =
         let left : length (left_half body) < 2 = rw (half_length body) h in
         rw (ne_eqb (length body % 2) 1 even, lt-ltb (length (left_half body)) 2 left)
 
-    pub two_fibonacci_is : 2 ≤ length body / 2 → two_channels Fibonacci limit body ≡ gives (by_turns (frame_bytes limit (fib_samples (left_half body))) (frame_bytes limit (fib_samples (right_half body))))
+    pub two_fibonacci_is : 2 ≤ length body / 2 → two_channels Fibonacci limit body ≡ Ok (by_turns (frame_bytes limit (fib_samples (left_half body))) (frame_bytes limit (fib_samples (right_half body))))
     unfolding two_channels stream
     two_fibonacci_is h =
         let left : 2 ≤ length (left_half body) = rw (half_length body) h in
@@ -136,10 +136,10 @@ module _ (limit : ℕ) (ls rs : List ℤ) (n : ℕ) (el : n ≡ min limit (lengt
 -- ---- a whole BODY
 
 module _ (byte channels limit : ℕ) (body : List ℕ) where
-  pub decoded_unknown : (number : ℕ) → known_compression byte ≡ Refused number → decoded_body byte channels limit body ≡ refuses number
-  decoded_unknown number e = rw e
+  pub decoded_unknown : (refusal : Refusal) → known_compression byte ≡ Err refusal → decoded_body byte channels limit body ≡ Err refusal
+  decoded_unknown refusal e = rw e
 
-  module _ (c : Compression) (e : known_compression byte ≡ Known c) where
+  module _ (c : Compression) (e : known_compression byte ≡ Ok c) where
     pub decoded_two : 1 < channels → decoded_body byte channels limit body ≡ two_channels c limit body
     decoded_two h = rw (e, lt-ltb 1 channels h)
 

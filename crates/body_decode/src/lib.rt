@@ -1,7 +1,7 @@
 // A whole BODY decoded to interleaved bytes.
 #![tactic(auto)]
 
-ghost use Rattle.std.specs.Prelude.{◌≡◌, ◌+◌, ◌≤◌, ◌<◌, min, length, take, drop, get_or};
+ghost use Rattle.std.specs.Prelude.{◌≡◌, ◌+◌, ◌≤◌, ◌<◌, length, take, drop, get_or};
 ghost use Rattle.laws.specs.Buffer.{written};
 ghost use Rattle.refusal.specs.Outcome.{answer, buffer_after};
 ghost use Rattle.header.specs.declared.compression.Compression.TheVariants.{None, Fibonacci};
@@ -11,15 +11,9 @@ ghost use Rattle.laws.specs.Turns.{by_turns};
 ghost use Rattle.body_decode.specs.Body.{frame_bytes, one_channel, two_channels, decoded_body};
 
 use fibonacci::fib_step;
-use header::{Compression, KnownCompression, known_compression};
-use refusal::Output;
+use header::{Compression, known_compression};
+use refusal::Refusal;
 use samples::{left_half, right_half};
-
-fn least(a: usize, b: usize) -> usize
-    ensures { result ≡ min a b }
-{
-    if a < b { a } else { b }
-}
 
 // Nibble m of a channel, the high one of a byte first; 0 past the end.
 fn nibble_at(body: &[u8], m: usize) -> u8
@@ -40,30 +34,14 @@ fn next_sample(body: &[u8], prev: i8, i: usize) -> i8
     fib_step(prev, nibble_at(body, i))
 }
 
-// The first n bytes.
-fn copy_bytes(body: &[u8], out: &mut [u8], n: usize)
-    requires { (n ≤ length body.now) × (n ≤ length out.old) }
-    ensures { out.new ≡ written (take n body.now) out.old }
-{
-    let mut i = 0;
-    while i < n {
-        out[i] = body[i];
-        i += 1;
-    }
-}
-
 // The first n bytes of both sides, left and right by turns.
 fn interleave_bytes(left: &[u8], right: &[u8], out: &mut [u8], n: usize)
     requires { (n ≤ length left.now) × (n ≤ length right.now) × (n + n ≤ length out.old) }
     ensures { out.new ≡ written (by_turns (take n left.now) (take n right.now)) out.old }
 {
-    let mut i = 0;
-    while i < n {
-        let l = i + i;
-        let r = i + i + 1;
-        out[l] = left[i];
-        out[r] = right[i];
-        i += 1;
+    for i in 0..n {
+        out[i + i] = left[i];
+        out[i + i + 1] = right[i];
     }
 }
 
@@ -73,11 +51,9 @@ fn copy_fibonacci(body: &[u8], out: &mut [u8], n: usize)
     ensures { out.new ≡ written (frame_bytes n (fib_samples body.now)) out.old }
 {
     let mut prev = field::sample_of_byte(body[1]);
-    let mut i = 0;
-    while i < n {
+    for i in 0..n {
         out[i] = field::byte_of_sample(prev);
         prev = next_sample(body, prev, i);
-        i += 1;
     }
 }
 
@@ -88,81 +64,77 @@ fn interleave_fibonacci(left: &[u8], right: &[u8], out: &mut [u8], n: usize)
 {
     let mut a = field::sample_of_byte(left[1]);
     let mut b = field::sample_of_byte(right[1]);
-    let mut i = 0;
-    while i < n {
-        let l = i + i;
-        let r = i + i + 1;
-        out[l] = field::byte_of_sample(a);
-        out[r] = field::byte_of_sample(b);
+    for i in 0..n {
+        out[i + i] = field::byte_of_sample(a);
+        out[i + i + 1] = field::byte_of_sample(b);
         a = next_sample(left, a, i);
         b = next_sample(right, b, i);
-        i += 1;
     }
 }
 
-fn one_raw(body: &[u8], frames: usize, out: &mut [u8]) -> Output
+fn one_raw(body: &[u8], frames: usize, out: &mut [u8]) -> Result<usize, Refusal>
     ensures result { result ≡ answer (one_channel None frames body.now) (length out.old) }
     ensures buffer { out.new ≡ buffer_after (one_channel None frames body.now) out.old }
 {
-    let n = least(frames, body.len());
+    let n = frames.min(body.len());
     if out.len() < n {
-        return Output::Refused(refusal::BUFFER_SHORT);
+        return Err(Refusal::BufferShort);
     }
-    copy_bytes(body, out, n);
-    Output::Length(n)
+    out[..n].copy_from_slice(&body[..n]);
+    Ok(n)
 }
 
-fn one_fibonacci(body: &[u8], frames: usize, out: &mut [u8]) -> Output
+fn one_fibonacci(body: &[u8], frames: usize, out: &mut [u8]) -> Result<usize, Refusal>
     ensures result { result ≡ answer (one_channel Fibonacci frames body.now) (length out.old) }
     ensures buffer { out.new ≡ buffer_after (one_channel Fibonacci frames body.now) out.old }
 {
     if body.len() < 2 {
-        return Output::Refused(refusal::CHANNEL_SHORT);
+        return Err(Refusal::ChannelShort);
     }
     let available = 2 * (body.len() - 2) + 1;
-    let n = least(frames, available);
+    let n = frames.min(available);
     if out.len() < n {
-        return Output::Refused(refusal::BUFFER_SHORT);
+        return Err(Refusal::BufferShort);
     }
     copy_fibonacci(body, out, n);
-    Output::Length(n)
+    Ok(n)
 }
 
-fn two_raw(body: &[u8], frames: usize, out: &mut [u8]) -> Output
+fn two_raw(body: &[u8], frames: usize, out: &mut [u8]) -> Result<usize, Refusal>
     ensures result { result ≡ answer (two_channels None frames body.now) (length out.old) }
     ensures buffer { out.new ≡ buffer_after (two_channels None frames body.now) out.old }
 {
-    let n = least(frames, body.len() / 2);
+    let n = frames.min(body.len() / 2);
     let length = n + n;
     if out.len() < length {
-        return Output::Refused(refusal::BUFFER_SHORT);
+        return Err(Refusal::BufferShort);
     }
     interleave_bytes(left_half(body), right_half(body), out, n);
-    Output::Length(length)
+    Ok(length)
 }
 
-fn two_fibonacci(body: &[u8], frames: usize, out: &mut [u8]) -> Output
+fn two_fibonacci(body: &[u8], frames: usize, out: &mut [u8]) -> Result<usize, Refusal>
     ensures result { result ≡ answer (two_channels Fibonacci frames body.now) (length out.old) }
     ensures buffer { out.new ≡ buffer_after (two_channels Fibonacci frames body.now) out.old }
 {
     if body.len() % 2 == 1 {
-        return Output::Refused(refusal::ODD_HALVES);
+        return Err(Refusal::OddHalves);
     }
     let half = body.len() / 2;
     if half < 2 {
-        return Output::Refused(refusal::CHANNEL_SHORT);
+        return Err(Refusal::ChannelShort);
     }
     let available = 2 * (half - 2) + 1;
-    let n = least(frames, available);
+    let n = frames.min(available);
     let length = n + n;
     if out.len() < length {
-        return Output::Refused(refusal::BUFFER_SHORT);
+        return Err(Refusal::BufferShort);
     }
     interleave_fibonacci(left_half(body), right_half(body), out, n);
-    Output::Length(length)
+    Ok(length)
 }
 
-fn decode_one(body: &[u8], c: Compression, frames: usize, out: &mut [u8]) -> Output
+fn decode_one(body: &[u8], c: Compression, frames: usize, out: &mut [u8]) -> Result<usize, Refusal>
     ensures result { result ≡ answer (one_channel c frames body.now) (length out.old) }
     ensures buffer { out.new ≡ buffer_after (one_channel c frames body.now) out.old }
 {
@@ -172,7 +144,7 @@ fn decode_one(body: &[u8], c: Compression, frames: usize, out: &mut [u8]) -> Out
     }
 }
 
-fn decode_two(body: &[u8], c: Compression, frames: usize, out: &mut [u8]) -> Output
+fn decode_two(body: &[u8], c: Compression, frames: usize, out: &mut [u8]) -> Result<usize, Refusal>
     ensures result { result ≡ answer (two_channels c frames body.now) (length out.old) }
     ensures buffer { out.new ≡ buffer_after (two_channels c frames body.now) out.old }
 {
@@ -190,18 +162,13 @@ pub fn decode_body(
     channels: u16,
     frames: usize,
     out: &mut [u8],
-) -> Output
+) -> Result<usize, Refusal>
     ensures result { result ≡ answer (decoded_body compression channels frames body.now) (length out.old) }
     ensures buffer { out.new ≡ buffer_after (decoded_body compression channels frames body.now) out.old }
 {
-    let known = known_compression(compression);
-    match known {
-        KnownCompression::Refused(number) => Output::Refused(number),
-        KnownCompression::Known(c) => {
-            if 1 < channels {
-                return decode_two(body, c, frames, out);
-            }
-            decode_one(body, c, frames, out)
-        }
+    let c = known_compression(compression)?;
+    if 1 < channels {
+        return decode_two(body, c, frames, out);
     }
+    decode_one(body, c, frames, out)
 }

@@ -15,14 +15,12 @@ use lib.Seq.{take_at, drop_at, take_all}
 use mir.Syntax.{w8}
 use mir.Val.{SFits}
 use Rattle.laws.proofs.Cases.{length_none}
-use Rattle.refusal.specs.Outcome.{gives}
 use Rattle.field.specs.Signed.{Samples, sample_of, byte_of}
 use Rattle.field.proofs.SignedLaws.{sample_fits, sample_byte, none_fits, samples_map, samples_take}
 use Rattle.header.specs.Compression.{known_compression}
 use Rattle.header.specs.Octaves.{hi, total_samples}
 use Rattle.header.specs.declared.compression.Compression.{Compression}
 use Rattle.header.specs.declared.compression.Compression.TheVariants.{None, Fibonacci}
-use Rattle.header.specs.declared.compression.KnownCompression.TheVariants.{Known}
 use Rattle.header.specs.declared.voice_header.VoiceHeader.{VoiceHeader}
 use Rattle.fibonacci.specs.Step.{fib_step}
 use Rattle.fibonacci.specs.Decode.{nibbles, running, fib_samples}
@@ -32,6 +30,7 @@ use Rattle.body_read.specs.Sides.{Sides, channel_samples, two_sides, body_sides,
 use Rattle.body_read.specs.Helpers.{stream_samples}
 use Rattle.body_read.proofs.ChannelLaws.{channel_of_lem, channel_whole}
 use Rattle.body_read.proofs.SideLaws.{one_gives, two_both, sides_one, sides_two, suit_parts, one_parts, two_parts, Source, sides_known}
+use Rattle.std.specs.Prelude.{Ok}
 
 -- ---- what is read
 
@@ -47,9 +46,9 @@ unfolding fib_samples
 stream_fits None bytes = samples_map sample_of sample_fits bytes
 stream_fits Fibonacci bytes = running_fits (sample_of (get_or bytes 1 0)) (nibbles (drop 2 bytes)) (sample_fits (get_or bytes 1 0))
 
-channel_fits : (h : VoiceHeader) (c : Compression) (bytes : List ℕ) (xs : List ℤ) → channel_samples h c bytes ≡ gives xs → Samples xs
+channel_fits : (h : VoiceHeader) (c : Compression) (bytes : List ℕ) (xs : List ℤ) → channel_samples h c bytes ≡ Ok xs → Samples xs
 channel_fits h c bytes xs e =
-    let first : gives (take (length xs) (stream_samples c bytes)) ≡ gives xs = sym (channel_of_lem h c bytes xs e).is ∙ e in
+    let first : Ok (take (length xs) (stream_samples c bytes)) ≡ Ok xs = sym (channel_of_lem h c bytes xs e).is ∙ e in
     let is : take (length xs) (stream_samples c bytes) ≡ xs = cc in
     rw is at (samples_take (length xs) (stream_samples c bytes) (stream_fits c bytes))
 
@@ -61,7 +60,7 @@ source_fits h false body s o =
     let p = one_parts h o.compression body s o.is in
     (channel_fits h o.compression body s.left p.left, (λ i. rw p.right none_fits))
 
-pub sides_samples : (h : VoiceHeader) (stereo : Bool) (body : List ℕ) (s : Sides) → body_sides h stereo body ≡ gives s → Samples s.left × Samples s.right
+pub sides_samples : (h : VoiceHeader) (stereo : Bool) (body : List ℕ) (s : Sides) → body_sides h stereo body ≡ Ok s → Samples s.left × Samples s.right
 sides_samples h stereo body s e = source_fits h stereo body s (sides_known h stereo body s e)
 
 -- ---- what was written
@@ -85,14 +84,14 @@ module _ (a b : List ℕ) (same : length b ≡ length a) where
       rw (half_of, drop_at a b (length a) refl) (take_all (length a) b all)
 
 module _ (h : VoiceHeader) (small : total_samples h < 2 ^ 64) where
-  raw_channel : (l : List ℤ) → (eqb (hi h) 0 || eqb (length l) (total_samples h)) ≡ true → Samples l → channel_samples h None (map byte_of l) ≡ gives l
+  raw_channel : (l : List ℤ) → (eqb (hi h) 0 || eqb (length l) (total_samples h)) ≡ true → Samples l → channel_samples h None (map byte_of l) ≡ Ok l
   raw_channel l e f =
       let suits : (eqb (hi h) 0 || eqb (length (map byte_of l)) (total_samples h)) ≡ true = rw (length-map l byte_of) e in
-      channel_whole h (map byte_of l) small suits ∙ ap gives (bytes_back l f)
+      channel_whole h (map byte_of l) small suits ∙ ap Ok (bytes_back l f)
 
   raw_two :
       (l r : List ℤ) → length r ≡ length l → (eqb (hi h) 0 || eqb (length l) (total_samples h)) ≡ true → Samples l → Samples r →
-      two_sides h None (map byte_of l ++ map byte_of r) ≡ gives (record { left = l; right = r })
+      two_sides h None (map byte_of l ++ map byte_of r) ≡ Ok (record { left = l; right = r })
   raw_two l r same e fl fr =
       let halves : length (map byte_of r) ≡ length (map byte_of l) = length-map r byte_of ∙ same ∙ sym (length-map l byte_of) in
       let also : (eqb (hi h) 0 || eqb (length r) (total_samples h)) ≡ true = rw same e in
@@ -102,9 +101,9 @@ module _ (h : VoiceHeader) (small : total_samples h < 2 ^ 64) where
       rw (both, left, right, raw_channel l e fl, raw_channel r also fr)
 
 pub raw_back :
-    (h : VoiceHeader) (stereo : Bool) (l r : List ℤ) → known_compression h.compression_byte ≡ Known None → total_samples h < 2 ^ 64 →
+    (h : VoiceHeader) (stereo : Bool) (l r : List ℤ) → known_compression h.compression_byte ≡ Ok None → total_samples h < 2 ^ 64 →
     lengths_suit h stereo (length l) (length r) ≡ true → Samples l → Samples r →
-    body_sides h stereo (map byte_of l ++ map byte_of r) ≡ gives (record { left = l; right = r })
+    body_sides h stereo (map byte_of l ++ map byte_of r) ≡ Ok (record { left = l; right = r })
 raw_back h true l r k small e fl fr =
     let p = suit_parts h true (length l) (length r) e in
     sides_two h true (map byte_of l ++ map byte_of r) None k refl ∙ raw_two h small l r (eqb-true (length r) (length l) p.1) p.0 fl fr

@@ -1,27 +1,25 @@
 -- What the code's helpers ask and give; no reader of the meanings needs it.
-use Rattle.std.specs.Prelude.{ℕ, ◌^◌, ◌≤◌, cond, List, map, eqb, ltb, ℤ, length}
-use Rattle.refusal.specs.Numbers.{octave_total, samples_short}
-use Rattle.refusal.specs.Outcome.{Outcome, gives, refuses}
+use Rattle.std.specs.Prelude.{ℕ, ◌^◌, ◌≤◌, cond, List, map, eqb, ltb, ℤ, length, Err, Ok}
 use Rattle.field.specs.Signed.{sample_of}
 use Rattle.header.specs.Octaves.{hi, total_samples}
 use Rattle.header.specs.declared.compression.Compression.{Compression}
 use Rattle.header.specs.declared.compression.Compression.TheVariants.{None, Fibonacci}
 use Rattle.header.specs.declared.voice_header.VoiceHeader.{VoiceHeader}
 use Rattle.fibonacci.specs.Decode.{fib_samples}
-use Rattle.body_read.specs.declared.lengths.Count.{Count}
-use Rattle.body_read.specs.declared.lengths.Count.TheVariants as count
+use Rattle.refusal.specs.declared.Refusal.TheVariants.{OctaveTotal, SamplesShort}
+use Rattle.refusal.specs.Outcome.{Outcome}
 
 -- how many samples there are
-abbrev pub sample_count_of : Outcome (List ℤ) → Count
-sample_count_of (gives samples) = count.Samples (length samples)
-sample_count_of (refuses number) = count.Refused number
+abbrev pub sample_count_of : Outcome (List ℤ) → Outcome ℕ
+sample_count_of (Ok samples) = Ok (length samples)
+sample_count_of (Err refusal) = Err refusal
 
 -- how many of a stream's n samples are kept
-abbrev pub kept_of : VoiceHeader → ℕ → Count
+abbrev pub kept_of : VoiceHeader → ℕ → Outcome ℕ
 kept_of h n =
     cond (ltb (total_samples h) (2 ^ 64))
-    (cond (eqb (hi h) 0) (count.Samples n) (cond (ltb n (total_samples h)) (count.Refused samples_short) (count.Samples (total_samples h))))
-    (count.Refused octave_total)
+    (cond (eqb (hi h) 0) (Ok n) (cond (ltb n (total_samples h)) (Err SamplesShort) (Ok (total_samples h))))
+    (Err OctaveTotal)
 
 -- the samples of a stream, of any length
 abbrev pub stream_samples : Compression → List ℕ → List ℤ

@@ -6,10 +6,10 @@ ghost use Rattle.body_read.specs.Sides.{channel_samples, two_sides, body_sides};
 ghost use Rattle.body_read.specs.Answers.{SidesFit, left_after, right_after};
 ghost use Rattle.body_read.specs.Helpers.{stream_samples, StreamHas};
 
-use crate::lengths::{Count, channel_length, is_uneven};
+use crate::lengths::{channel_length, is_uneven};
 use fibonacci::decode_first;
-use header::{Compression, KnownCompression, VoiceHeader};
-use refusal::Output;
+use header::{Compression, VoiceHeader};
+use refusal::Refusal;
 use samples::{decode_raw, left_half, right_half};
 
 // The first n samples of a channel's stream.
@@ -19,7 +19,7 @@ fn decode_stream(c: Compression, bytes: &[u8], out: &mut [i8], n: usize)
 {
     match c {
         Compression::None => {
-            decode_raw(&bytes[..n], out);
+            let _ = decode_raw(&bytes[..n], out);
         }
         Compression::Fibonacci => {
             decode_first(bytes, out, n);
@@ -28,20 +28,21 @@ fn decode_stream(c: Compression, bytes: &[u8], out: &mut [i8], n: usize)
 }
 
 // The samples of a channel; 12, 13, 14, then 20 where they don't fit.
-fn decode_channel(h: VoiceHeader, c: Compression, bytes: &[u8], out: &mut [i8]) -> Output
+fn decode_channel(
+    h: VoiceHeader,
+    c: Compression,
+    bytes: &[u8],
+    out: &mut [i8],
+) -> Result<usize, Refusal>
     ensures result { result ≡ answer (channel_samples h c bytes.now) (length out.old) }
     ensures buffer { out.new ≡ buffer_after (channel_samples h c bytes.now) out.old }
 {
-    match channel_length(h, c, bytes) {
-        Count::Refused(number) => Output::Refused(number),
-        Count::Samples(n) => {
-            if out.len() < n {
-                return Output::Refused(refusal::BUFFER_SHORT);
-            }
-            decode_stream(c, bytes, out, n);
-            Output::Length(n)
-        }
+    let n = channel_length(h, c, bytes)?;
+    if out.len() < n {
+        return Err(Refusal::BufferShort);
     }
+    decode_stream(c, bytes, out, n);
+    Ok(n)
 }
 
 fn decode_two(h: VoiceHeader, c: Compression, body: &[u8], left: &mut [i8], right: &mut [i8])
@@ -52,8 +53,8 @@ fn decode_two(h: VoiceHeader, c: Compression, body: &[u8], left: &mut [i8], righ
     if is_uneven(c, body) {
         return;
     }
-    decode_channel(h, c, left_half(body), left);
-    decode_channel(h, c, right_half(body), right);
+    let _ = decode_channel(h, c, left_half(body), left);
+    let _ = decode_channel(h, c, right_half(body), right);
 }
 
 // Both sides' samples, at the front of their buffers.
@@ -62,14 +63,12 @@ pub fn decode_sides(h: VoiceHeader, stereo: bool, body: &[u8], left: &mut [i8], 
     ensures left { left.new ≡ left_after (body_sides h stereo body.now) left.old }
     ensures right { right.new ≡ right_after (body_sides h stereo body.now) right.old }
 {
-    match h.compression() {
-        KnownCompression::Refused(_) => {}
-        KnownCompression::Known(c) => {
-            if stereo {
-                decode_two(h, c, body, left, right);
-            } else {
-                decode_channel(h, c, body, left);
-            }
-        }
+    let Ok(c) = h.compression() else {
+        return;
+    };
+    if stereo {
+        decode_two(h, c, body, left, right);
+        return;
     }
+    let _ = decode_channel(h, c, body, left);
 }

@@ -6,67 +6,54 @@ ghost use Rattle.body_read.specs.Sides.{channel_samples, one_side, two_sides, bo
 ghost use Rattle.body_read.specs.Answers.{side_lengths_of};
 ghost use Rattle.body_read.specs.Helpers.{sample_count_of, kept_of};
 
-use header::{Compression, KnownCompression, Total, VoiceHeader};
+use header::{Compression, VoiceHeader};
+use refusal::Refusal;
 use samples::left_half;
 
 // How many samples the left and the right side have.
-#[derive(Clone, Copy)]
-pub enum SideLengths {
-    Lengths(usize, usize),
-    Refused(u8),
-}
-
-// How many samples a channel has.
-#[derive(Clone, Copy)]
-pub(crate) enum Count {
-    Samples(usize),
-    Refused(u8),
+#[derive(Clone, Copy, Debug, PartialEq, Eq)]
+pub struct SideLengths {
+    pub left: usize,
+    pub right: usize,
 }
 
 // The samples of a channel's stream; 12 for a Fibonacci channel under 2 bytes.
-fn stream_length(c: Compression, bytes: &[u8]) -> Count
+fn stream_length(c: Compression, bytes: &[u8]) -> Result<usize, Refusal>
     ensures { result ≡ sample_count_of (stream c bytes.now) }
 {
     let n = bytes.len();
     match c {
-        Compression::None => Count::Samples(n),
+        Compression::None => Ok(n),
         Compression::Fibonacci => {
             if n < 2 {
-                return Count::Refused(refusal::CHANNEL_SHORT);
+                return Err(Refusal::ChannelShort);
             }
             let samples = 2 * (n - 2) + 1;
-            Count::Samples(samples)
+            Ok(samples)
         }
     }
 }
 
 // How many of a stream's n samples are kept; 13 for a total past 64 bits, 14 where the stream is shorter than the total.
-fn kept_length(h: VoiceHeader, n: usize) -> Count
+fn kept_length(h: VoiceHeader, n: usize) -> Result<usize, Refusal>
     ensures { result ≡ kept_of h n }
 {
-    match h.total_samples_per_channel() {
-        Total::Refused(number) => Count::Refused(number),
-        Total::Sum(total) => {
-            if h.hi_octave_samples() == 0 {
-                return Count::Samples(n);
-            }
-            let need = total as usize;
-            if n < need {
-                return Count::Refused(refusal::SAMPLES_SHORT);
-            }
-            Count::Samples(need)
-        }
+    let need = h.total_samples_per_channel()? as usize;
+    if h.hi_octave_samples() == 0 {
+        return Ok(n);
     }
+    if n < need {
+        return Err(Refusal::SamplesShort);
+    }
+    Ok(need)
 }
 
 // The samples of a channel; 12, 13, 14 in that order.
-pub(crate) fn channel_length(h: VoiceHeader, c: Compression, bytes: &[u8]) -> Count
+pub(crate) fn channel_length(h: VoiceHeader, c: Compression, bytes: &[u8]) -> Result<usize, Refusal>
     ensures { result ≡ sample_count_of (channel_samples h c bytes.now) }
 {
-    match stream_length(c, bytes) {
-        Count::Refused(number) => Count::Refused(number),
-        Count::Samples(n) => kept_length(h, n),
-    }
+    let n = stream_length(c, bytes)?;
+    kept_length(h, n)
 }
 
 // A Fibonacci BODY of odd length has no two halves.
@@ -79,41 +66,33 @@ pub(crate) fn is_uneven(c: Compression, body: &[u8]) -> bool
     }
 }
 
-fn one_length(h: VoiceHeader, c: Compression, body: &[u8]) -> SideLengths
+fn one_length(h: VoiceHeader, c: Compression, body: &[u8]) -> Result<SideLengths, Refusal>
     ensures { result ≡ side_lengths_of (one_side h c body.now) }
 {
-    match channel_length(h, c, body) {
-        Count::Refused(number) => SideLengths::Refused(number),
-        Count::Samples(n) => SideLengths::Lengths(n, 0),
-    }
+    let left = channel_length(h, c, body)?;
+    Ok(SideLengths { left, right: 0 })
 }
 
 // The halves of BODY are of one length, so the left one speaks for both.
-fn two_lengths(h: VoiceHeader, c: Compression, body: &[u8]) -> SideLengths
+fn two_lengths(h: VoiceHeader, c: Compression, body: &[u8]) -> Result<SideLengths, Refusal>
     ensures { result ≡ side_lengths_of (two_sides h c body.now) }
 {
     if is_uneven(c, body) {
-        return SideLengths::Refused(refusal::ODD_HALVES);
+        return Err(Refusal::OddHalves);
     }
-    match channel_length(h, c, left_half(body)) {
-        Count::Refused(number) => SideLengths::Refused(number),
-        Count::Samples(n) => SideLengths::Lengths(n, n),
-    }
+    let n = channel_length(h, c, left_half(body))?;
+    Ok(SideLengths { left: n, right: n })
 }
 
 // The lengths of the sides that BODY gives; 10 to 14, lowest first.
-pub fn side_lengths(h: VoiceHeader, stereo: bool, body: &[u8]) -> SideLengths
+pub fn side_lengths(h: VoiceHeader, stereo: bool, body: &[u8]) -> Result<SideLengths, Refusal>
     ensures { result ≡ side_lengths_of (body_sides h stereo body.now) }
 {
-    match h.compression() {
-        KnownCompression::Refused(number) => SideLengths::Refused(number),
-        KnownCompression::Known(c) => {
-            if stereo {
-                return two_lengths(h, c, body);
-            }
-            one_length(h, c, body)
-        }
+    let c = h.compression()?;
+    if stereo {
+        return two_lengths(h, c, body);
     }
+    one_length(h, c, body)
 }
 
 // That a left and a right length suit a header.
@@ -131,7 +110,7 @@ pub fn is_suited(h: VoiceHeader, stereo: bool, left: usize, right: usize) -> boo
         return true;
     }
     match h.total_samples_per_channel() {
-        Total::Refused(_) => false,
-        Total::Sum(total) => left == total as usize,
+        Ok(total) => left == total as usize,
+        Err(_) => false,
     }
 }

@@ -44,10 +44,10 @@ fn put_channel(c: Compression, samples: &[i8], d: &mut [u8], at: usize) -> usize
     let end = at + channel_length(c, samples);
     match c {
         Compression::None => {
-            encode_raw(samples, &mut d[at..]);
+            let _ = encode_raw(samples, &mut d[at..]);
         }
         Compression::Fibonacci => {
-            fibonacci_encode_channel(samples, &mut d[at..]);
+            let _ = fibonacci_encode_channel(samples, &mut d[at..]);
         }
     }
     end

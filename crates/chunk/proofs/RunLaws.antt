@@ -1,7 +1,6 @@
 -- Chunks put together: a run of complete, padded chunks before other bytes is its items before theirs.
 -- Assumes nothing.
 use Rattle.laws.proofs.Cases.{impossible}
-use Rattle.refusal.specs.Numbers.{chunk_past_form}
 use Prim.Native.Nat.{ℕ, suc, ◌+◌, ◌-◌, ◌%◌, ◌≤◌}
 use mathlib.Core.Path.{◌≡◌, refl, ap, ◌∙◌}
 use mathlib.Core.Bool.{Bool, true, false, cond}
@@ -17,6 +16,7 @@ use Rattle.chunk.proofs.ChunkLaws.{nil_first}
 use Rattle.chunk.specs.Chunk.{whole, refused, none, head_of, Item, chunk, first_item, items_of}
 use Rattle.laws.specs.Walk.{walk}
 use Rattle.laws.proofs.WalkLaws.{walk_more}
+use Rattle.refusal.specs.declared.Refusal.TheVariants.{ChunkPastForm}
 
 -- c is a complete chunk with its pad
 pub record Padded (c : List ℕ) (id : ℕ) (b : List ℕ) : Type 0 where
@@ -39,7 +39,7 @@ unfolding head_of
 says c id n = go (ltb (length c) 8) (ltb (length c - 8) (big_endian 4 (drop 4 c))) refl refl
   where
     go : (a b : Bool) → ltb (length c) 8 ≡ a → ltb (length c - 8) (big_endian 4 (drop 4 c)) ≡ b
-        → cond a none (cond b (refused chunk_past_form) (whole (big_endian 4 c) (big_endian 4 (drop 4 c)))) ≡ whole id n → Says c id n
+        → cond a none (cond b (refused ChunkPastForm) (whole (big_endian 4 c) (big_endian 4 (drop 4 c)))) ≡ whole id n → Says c id n
     go true b p q e = impossible cc
     go false true p q e = impossible cc
     go false false p q e =

@@ -8,17 +8,16 @@ ghost use Rattle.chunk.specs.Chunk.{end_of};
 ghost use Rattle.chunk.specs.ForCode.{step_at};
 
 use field::read32;
+use refusal::Refusal;
 pub use write::{put_chunk, put_head, put_pad};
 
-// What stands at a place of the walk.
-#[derive(Clone, Copy)]
-pub enum ChunkStep {
-    // A whole chunk: its name, the place and the size of its payload, and the place past that and the pad byte.
-    Chunk(u32, usize, usize, usize),
-    // A chunk that is refused, by its number: 4 where it runs past the FORM.
-    Refused(u8),
-    // Fewer than eight bytes are left.
-    End,
+// A whole chunk: its name, the place and the size of its payload, and the place past that and the pad byte.
+#[derive(Clone, Copy, Debug, PartialEq, Eq)]
+pub struct Chunk {
+    pub id: u32,
+    pub start: usize,
+    pub size: usize,
+    pub next: usize,
 }
 
 // Where the walk of a file ends: where the length in bytes 4 to 7 says, or at the file's end if that comes first.
@@ -46,25 +45,30 @@ pub fn form(file: &[u8]) -> &[u8]
     &file[..end]
 }
 
-// What stands at a place of the form.
-pub fn chunk_at(form: &[u8], at: usize) -> ChunkStep
+// The chunk at a place of the form, or none where fewer than eight bytes are left; 4 where it runs past the FORM.
+pub fn chunk_at(form: &[u8], at: usize) -> Result<Option<Chunk>, Refusal>
     ensures { result ≡ step_at form.now at }
 {
     let n = form.len();
     if n <= at {
-        return ChunkStep::End;
+        return Ok(None);
     }
     let left = n - at;
     if left < 8 {
-        return ChunkStep::End;
+        return Ok(None);
     }
     let id = read32(form, at);
     let size = read32(form, at + 4) as usize;
     if left - 8 < size {
-        return ChunkStep::Refused(refusal::CHUNK_PAST_FORM);
+        return Err(Refusal::ChunkPastForm);
     }
     let start = at + 8;
     let end = start + size;
     let next = end + size % 2;
-    ChunkStep::Chunk(id, start, size, next)
+    Ok(Some(Chunk {
+        id,
+        start,
+        size,
+        next,
+    }))
 }

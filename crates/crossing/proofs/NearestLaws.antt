@@ -14,12 +14,13 @@ use lib.Dec.{eqb, ltb, leb}
 use lib.IntN.{ℤ}
 use lib.ListN.{length}
 use Rattle.laws.specs.Among.{Among}
-use Rattle.refusal.specs.Numbers.{no_crossing}
 use Rattle.crossing.specs.Crossing.{sign_changes, places_from, those, crossings, far_off, comes_first, nearer, nearest_of, nearest_crossing}
 use Rattle.crossing.specs.Promise.{WithinReach, IsNearest}
-use Rattle.crossing.specs.declared.Crossing.{Crossing}
-use Rattle.crossing.specs.declared.Crossing.TheVariants.{Found, Refused}
 use Rattle.crossing.proofs.PlaceLaws.{passed, passes, place_bounds, place_in}
+use Rattle.refusal.specs.declared.Refusal.TheVariants.{NoCrossing}
+use Rattle.refusal.specs.Outcome.{Outcome}
+use Rattle.std.specs.Prelude.{Err, Ok}
+use Rattle.refusal.specs.declared.Refusal.{Refusal}
 
 -- ---- the nearest of a list
 
@@ -60,22 +61,22 @@ module _ (place : ℕ) where
   }
 
   -- what an answer says of a list: one of its places, which no other comes before; or that it has none
-  abbrev Says : Crossing → List ℕ → Type 0
-  Says (Found i) l = Among i l × ((j : ℕ) → Among j l → NotBefore place i j)
-  Says (Refused n) l = (n ≡ no_crossing) × ((j : ℕ) → Among j l → ⊥)
+  abbrev Says : Outcome ℕ → List ℕ → Type 0
+  Says (Ok i) l = Among i l × ((j : ℕ) → Among j l → NotBefore place i j)
+  Says (Err n) l = (n ≡ NoCrossing) × ((j : ℕ) → Among j l → ⊥)
 
   says : (l : List ℕ) → Says (nearest_of place l) l
   unfolding nearest_of
   says [] = (refl, λ j h. h)
   says (i ∷ is) = go (nearest_of place is) (says is)
     where
-      by : (j : ℕ) → Among j is → ((k : ℕ) → Among k is → NotBefore place j k) → (t : Bool) → comes_first place j i ≡ t → Says (Found (cond t j i)) (i ∷ is)
+      by : (j : ℕ) → Among j is → ((k : ℕ) → Among k is → NotBefore place j k) → (t : Bool) → comes_first place j i ≡ t → Says (Ok (cond t j i)) (i ∷ is)
       by j h least true e = (inr h, λ k. ⊎_elim (λ same. rw same (first_of_two i j true e)) (λ h. least k h))
       by j h least false e = (inl refl, λ k. ⊎_elim (λ same. rw same (itself i)) (λ h. onward i j k (first_of_two i j false e) (least k h)))
 
-      go : (r : Crossing) → Says r is → Says (nearer place i r) (i ∷ is)
-      go (Found j) s = by j s.0 s.1 (comes_first place j i) refl
-      go (Refused n) s = (inl refl, λ k. ⊎_elim (λ same. rw same (itself i)) (λ h. absurd (s.1 k h)))
+      go : (r : Outcome ℕ) → Says r is → Says (nearer place i r) (i ∷ is)
+      go (Ok j) s = by j s.0 s.1 (comes_first place j i) refl
+      go (Err n) s = (inl refl, λ k. ⊎_elim (λ same. rw same (itself i)) (λ h. absurd (s.1 k h)))
 
 -- ---- the nearest of the crossings within reach
 
@@ -99,37 +100,37 @@ module _ (samples : List ℤ) (place reach : ℕ) where
       let there = place_in j 1 (length samples - 1) c.first (omega (arith, c.first, c.last)) in
       passes (λ i. leb (far_off place i) reach) j (crossings samples) (passes (sign_changes samples) j (places_from 1 (length samples - 1)) there c.changes) (le-leb (far_off place j) reach w.near)
 
-  pub nearest_found : (i : ℕ) → nearest_crossing samples place reach ≡ Found i → IsNearest samples place reach i
+  pub nearest_found : (i : ℕ) → nearest_crossing samples place reach ≡ Ok i → IsNearest samples place reach i
   unfolding nearest_crossing
   nearest_found i e =
-      let s = subst (λ (r : Crossing). Says place r within) e (says place within) in
+      let s = subst (λ (r : Outcome ℕ). Says place r within) e (says place within) in
       record { within = within_reach i s.0; nearest = λ j w. (s.1 j (reach_within j w)).nearer; earlier = λ j w. (s.1 j (reach_within j w)).earlier }
 
-  pub nearest_none : (n : ℕ) → nearest_crossing samples place reach ≡ Refused n → (n ≡ no_crossing) × ((j : ℕ) → WithinReach samples place reach j → ⊥)
+  pub nearest_none : (n : Refusal) → nearest_crossing samples place reach ≡ Err n → (n ≡ NoCrossing) × ((j : ℕ) → WithinReach samples place reach j → ⊥)
   unfolding nearest_crossing
   nearest_none n e =
-      let s = subst (λ (r : Crossing). Says place r within) e (says place within) in
+      let s = subst (λ (r : Outcome ℕ). Says place r within) e (says place within) in
       (s.0, λ j w. s.1 j (reach_within j w))
 
-  pub found_nearest : (i : ℕ) → IsNearest samples place reach i → nearest_crossing samples place reach ≡ Found i
+  pub found_nearest : (i : ℕ) → IsNearest samples place reach i → nearest_crossing samples place reach ≡ Ok i
   found_nearest i n = go (nearest_crossing samples place reach) refl
     where
-      go : (r : Crossing) → nearest_crossing samples place reach ≡ r → r ≡ Found i
-      go (Found j) e =
+      go : (r : Outcome ℕ) → nearest_crossing samples place reach ≡ r → r ≡ Ok i
+      go (Ok j) e =
           let m = nearest_found j e in
           let there = n.nearest j m.within in
           let back = m.nearest i n.within in
           let early = n.earlier j m.within (omega (arith, there, back)) in
           let late = m.earlier i n.within (omega (arith, there, back)) in
-          ap Found (omega (arith, early, late))
-      go (Refused k) e = absurd ((nearest_none k e).1 i n.within)
+          ap Ok (omega (arith, early, late))
+      go (Err k) e = absurd ((nearest_none k e).1 i n.within)
 
-  pub none_refused : ((j : ℕ) → WithinReach samples place reach j → ⊥) → nearest_crossing samples place reach ≡ Refused no_crossing
+  pub none_refused : ((j : ℕ) → WithinReach samples place reach j → ⊥) → nearest_crossing samples place reach ≡ Err NoCrossing
   none_refused none = go (nearest_crossing samples place reach) refl
     where
-      go : (r : Crossing) → nearest_crossing samples place reach ≡ r → r ≡ Refused no_crossing
-      go (Found j) e = absurd (none j (nearest_found j e).within)
-      go (Refused k) e = ap Refused (nearest_none k e).0
+      go : (r : Outcome ℕ) → nearest_crossing samples place reach ≡ r → r ≡ Err NoCrossing
+      go (Ok j) e = absurd (none j (nearest_found j e).within)
+      go (Err k) e = ap Err (nearest_none k e).0
 
-  pub short_refused : length samples ≤ 1 → nearest_crossing samples place reach ≡ Refused no_crossing
+  pub short_refused : length samples ≤ 1 → nearest_crossing samples place reach ≡ Err NoCrossing
   short_refused short = none_refused (λ j w. omega (arith, short, w.crossing.first, w.crossing.last))

@@ -7,10 +7,10 @@ use native.Mathlib.Omega.{arith}
 use lib.IntN.{ℤ, pos, negsuc}
 use Rattle.crossing.specs.Crossing.{places_from, those, nearest_of, nearest_crossing}
 use Rattle.crossing.specs.Promise.{IsCrossing, CrossingPromise}
-use Rattle.crossing.specs.declared.Crossing.TheVariants.{Found}
 use Rattle.crossing.proofs.NearestLaws.{nearest_found, nearest_none, found_nearest, none_refused, short_refused}
+use Rattle.std.specs.Prelude.{Ok}
 
-itself : (samples : List ℤ) (place reach : ℕ) → IsCrossing samples place → nearest_crossing samples place reach ≡ Found place
+itself : (samples : List ℤ) (place reach : ℕ) → IsCrossing samples place → nearest_crossing samples place reach ≡ Ok place
 itself samples place reach c =
     found_nearest samples place reach place (record {
       within = record { crossing = c; near = omega arith };
@@ -18,14 +18,14 @@ itself samples place reach c =
       earlier = λ j w same. omega (arith, same);
     })
 
-alone : (samples : List ℤ) (place i : ℕ) → nearest_crossing samples place 0 ≡ Found i → i ≡ place
+alone : (samples : List ℤ) (place i : ℕ) → nearest_crossing samples place 0 ≡ Ok i → i ≡ place
 alone samples place i e = omega (arith, (nearest_found samples place 0 i e).within.near)
 
-earlier_of_two : nearest_crossing (pos 3 ∷ negsuc 0 ∷ negsuc 1 ∷ pos 4 ∷ []) 2 1 ≡ Found 1
+earlier_of_two : nearest_crossing (pos 3 ∷ negsuc 0 ∷ negsuc 1 ∷ pos 4 ∷ []) 2 1 ≡ Ok 1
 unfolding nearest_crossing nearest_of those places_from
 earlier_of_two = refl
 
-zero_not_below : nearest_crossing (pos 5 ∷ pos 0 ∷ negsuc 0 ∷ []) 0 9 ≡ Found 2
+zero_not_below : nearest_crossing (pos 5 ∷ pos 0 ∷ negsuc 0 ∷ []) 0 9 ≡ Ok 2
 unfolding nearest_crossing nearest_of those places_from
 zero_not_below = refl
 

@@ -9,13 +9,13 @@ use borrow.Author.Tests.{eqb-true, eqb-false, ltb-true, ltb-false}
 use lib.Dec.{eqb, ltb}
 use lib.IntN.{ℤ}
 use lib.ListN.{length}
-use Rattle.refusal.specs.Numbers.{no_crossing}
 use Rattle.crossing.specs.Crossing.{is_below, unlike, far_off, nearest_crossing}
 use Rattle.crossing.specs.Helpers.{Searched}
 use Rattle.crossing.specs.Promise.{IsCrossing, WithinReach}
-use Rattle.crossing.specs.declared.Crossing.{Crossing}
-use Rattle.crossing.specs.declared.Crossing.TheVariants.{Found, Refused}
 use Rattle.crossing.proofs.NearestLaws.{nearest_found, nearest_none, found_nearest, none_refused}
+use Rattle.refusal.specs.declared.Refusal.TheVariants.{NoCrossing}
+use Rattle.refusal.specs.Outcome.{Outcome}
+use Rattle.std.specs.Prelude.{Err, Ok}
 
 -- ---- two signs
 
@@ -90,7 +90,7 @@ module _ {samples : List ℤ} {start d : ℕ} (s : Searched samples start d) whe
       absurd (never_both (is_below samples (j - 1)) (is_below samples j) (is_below samples start) prior its c.changes)
 
   module _ (reach : ℕ) where
-    pub found_before : d < min (reach + 1) start → unlike (is_below samples start) (is_below samples (start - d - 1)) ≡ true → nearest_crossing samples start reach ≡ Found (start - d)
+    pub found_before : d < min (reach + 1) start → unlike (is_below samples start) (is_below samples (start - d - 1)) ≡ true → nearest_crossing samples start reach ≡ Ok (start - d)
     found_before room u = found_nearest samples start reach (start - d) (record {
       within = record {
         crossing = record {
@@ -105,10 +105,10 @@ module _ {samples : List ℤ} {start d : ℕ} (s : Searched samples start d) whe
     })
 
     after_it : BeforeAlike → d ≤ reach → start + d < length samples → unlike (is_below samples start) (is_below samples (start + d)) ≡ true
-        → nearest_crossing samples start reach ≡ Found (start + d)
+        → nearest_crossing samples start reach ≡ Ok (start + d)
     after_it b near there u = go (eqb d 0) refl
       where
-        go : (t : Bool) → eqb d 0 ≡ t → nearest_crossing samples start reach ≡ Found (start + d)
+        go : (t : Bool) → eqb d 0 ≡ t → nearest_crossing samples start reach ≡ Ok (start + d)
         go true t =
             let same = s.signs (start + d) there (omega arith) (omega (arith, eqb-true d 0 t)) in
             absurd (never_both (is_below samples start) (is_below samples (start + d)) (is_below samples start) refl same u)
@@ -122,10 +122,10 @@ module _ {samples : List ℤ} {start d : ℕ} (s : Searched samples start d) whe
             })
 
     pub found_after : BeforeAlike → d < min (reach + 1) (length samples - start) → unlike (is_below samples start) (is_below samples (start + d)) ≡ true
-        → nearest_crossing samples start reach ≡ Found (start + d)
+        → nearest_crossing samples start reach ≡ Ok (start + d)
     found_after b room = after_it b (omega (arith, room)) (omega (arith, room))
 
-    pub found_none : min (reach + 1) start ≤ d → min (reach + 1) (length samples - start) ≤ d → nearest_crossing samples start reach ≡ Refused no_crossing
+    pub found_none : min (reach + 1) start ≤ d → min (reach + 1) (length samples - start) ≤ d → nearest_crossing samples start reach ≡ Err NoCrossing
     found_none before after = none_refused samples start reach (λ j w. no j w (farther j w.crossing))
       where
         no : (j : ℕ) → WithinReach samples start reach j → d ≤ far_off start j → ⊥
@@ -150,7 +150,7 @@ module _ (samples : List ℤ) (place reach : ℕ) (some : 1 ≤ length samples) 
   apart : (j : ℕ) → IsCrossing samples j → far_off place j ≡ between + far_off last j
   apart j c = omega (arith, some, past, c.last)
 
-  pub past_reach : reach < between → nearest_crossing samples place reach ≡ Refused no_crossing
+  pub past_reach : reach < between → nearest_crossing samples place reach ≡ Err NoCrossing
   past_reach far = none_refused samples place reach (λ j w. omega (arith, far, w.near, apart j w.crossing))
 
   module _ (near : between ≤ reach) where
@@ -164,11 +164,11 @@ module _ (samples : List ℤ) (place reach : ℕ) (some : 1 ≤ length samples) 
     pub from_last : nearest_crossing samples last (reach - between) ≡ nearest_crossing samples place reach
     from_last = go (nearest_crossing samples last (reach - between)) refl
       where
-        go : (r : Crossing) → nearest_crossing samples last (reach - between) ≡ r → r ≡ nearest_crossing samples place reach
-        go (Refused n) e =
+        go : (r : Outcome ℕ) → nearest_crossing samples last (reach - between) ≡ r → r ≡ nearest_crossing samples place reach
+        go (Err n) e =
             let none = nearest_none samples last (reach - between) n e in
-            ap Refused none.0 ∙ sym (none_refused samples place reach (λ j w. none.1 j (to_last j w)))
-        go (Found i) e =
+            ap Err none.0 ∙ sym (none_refused samples place reach (λ j w. none.1 j (to_last j w)))
+        go (Ok i) e =
             let n = nearest_found samples last (reach - between) i e in
             let its = apart i n.within.crossing in
             sym (found_nearest samples place reach i (record {

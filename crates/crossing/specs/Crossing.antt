@@ -1,9 +1,8 @@
 -- Places where the sign of samples changes, and the nearest of them to a place.
-use Rattle.std.specs.Prelude.{ℕ, zero, suc, ◌+◌, ◌-◌, Bool, not, ◌&&◌, ◌||◌, cond, List, [], ◌∷◌, eqb, ltb, leb, ℤ, pos, length, get_or}
+use Rattle.std.specs.Prelude.{ℕ, zero, suc, ◌+◌, ◌-◌, Bool, not, ◌&&◌, ◌||◌, cond, List, [], ◌∷◌, eqb, ltb, leb, ℤ, pos, length, get_or, Err, Ok}
 use Rattle.std.specs.Int.Signed.{lt_z}
-use Rattle.refusal.specs.Numbers.{no_crossing}
-use Rattle.crossing.specs.declared.Crossing.{Crossing}
-use Rattle.crossing.specs.declared.Crossing.TheVariants.{Found, Refused}
+use Rattle.refusal.specs.declared.Refusal.TheVariants.{NoCrossing}
+use Rattle.refusal.specs.Outcome.{Outcome}
 
 -- sample i is below 0
 abbrev pub is_below : List ℤ → ℕ → Bool
@@ -40,15 +39,15 @@ abbrev pub comes_first : ℕ → ℕ → ℕ → Bool
 comes_first place j i = ltb (far_off place j) (far_off place i) || eqb (far_off place j) (far_off place i) && ltb j i
 
 -- i, or what is found among the others, whichever comes first
-abbrev pub nearer : ℕ → ℕ → Crossing → Crossing
-nearer place i (Found j) = Found (cond (comes_first place j i) j i)
-nearer place i (Refused number) = Found i
+abbrev pub nearer : ℕ → ℕ → Outcome ℕ → Outcome ℕ
+nearer place i (Ok j) = Ok (cond (comes_first place j i) j i)
+nearer place i (Err refusal) = Ok i
 
 -- the nearest of a list of places, of two as near the earlier; 43 where there is none
-unfoldable pub nearest_of : ℕ → List ℕ → Crossing
-nearest_of place [] = Refused no_crossing
+unfoldable pub nearest_of : ℕ → List ℕ → Outcome ℕ
+nearest_of place [] = Err NoCrossing
 nearest_of place (i ∷ is) = nearer place i (nearest_of place is)
 
 -- the nearest of the crossings that are at most the reach away
-unfoldable pub nearest_crossing : List ℤ → ℕ → ℕ → Crossing
+unfoldable pub nearest_crossing : List ℤ → ℕ → ℕ → Outcome ℕ
 nearest_crossing samples place reach = nearest_of place (those (λ i. leb (far_off place i) reach) (crossings samples))

@@ -1,8 +1,8 @@
 -- What is promised of the nearest crossing. It is proved as `promise`.
-use Rattle.std.specs.Prelude.{ℕ, ◌≤◌, ◌<◌, true, List, [], ◌∷◌, ◌≡◌, ℤ, pos, negsuc, length}
-use Rattle.refusal.specs.Numbers.{no_crossing}
+use Rattle.std.specs.Prelude.{ℕ, ◌≤◌, ◌<◌, true, List, [], ◌∷◌, ◌≡◌, ℤ, pos, negsuc, length, Err, Ok}
 use Rattle.crossing.specs.Crossing.{sign_changes, far_off, nearest_crossing}
-use Rattle.crossing.specs.declared.Crossing.TheVariants.{Found, Refused}
+use Rattle.refusal.specs.declared.Refusal.TheVariants.{NoCrossing}
+use Rattle.refusal.specs.declared.Refusal.{Refusal}
 
 -- place i is a crossing
 pub record IsCrossing (samples : List ℤ) (i : ℕ) : Type 0 where
@@ -30,20 +30,20 @@ pub record IsNearest (samples : List ℤ) (place reach i : ℕ) : Type 0 where
 -- what an answer says and when it is given, and two examples
 pub record CrossingPromise : Type 0 where
   -- what is found is the nearest
-  pub found : (samples : List ℤ) (place reach i : ℕ) → nearest_crossing samples place reach ≡ Found i → IsNearest samples place reach i
+  pub found : (samples : List ℤ) (place reach i : ℕ) → nearest_crossing samples place reach ≡ Ok i → IsNearest samples place reach i
   -- and the nearest is found
-  pub finds : (samples : List ℤ) (place reach i : ℕ) → IsNearest samples place reach i → nearest_crossing samples place reach ≡ Found i
+  pub finds : (samples : List ℤ) (place reach i : ℕ) → IsNearest samples place reach i → nearest_crossing samples place reach ≡ Ok i
   -- it is refused by 43 alone, and only where there is none within reach
-  pub refused : (samples : List ℤ) (place reach n : ℕ) → nearest_crossing samples place reach ≡ Refused n → (n ≡ no_crossing) × ((j : ℕ) → WithinReach samples place reach j → ⊥)
+  pub refused : (samples : List ℤ) (place reach : ℕ) (n : Refusal) → nearest_crossing samples place reach ≡ Err n → (n ≡ NoCrossing) × ((j : ℕ) → WithinReach samples place reach j → ⊥)
   -- and where there is none it is refused
-  pub refuses : (samples : List ℤ) (place reach : ℕ) → ((j : ℕ) → WithinReach samples place reach j → ⊥) → nearest_crossing samples place reach ≡ Refused no_crossing
+  pub refuses : (samples : List ℤ) (place reach : ℕ) → ((j : ℕ) → WithinReach samples place reach j → ⊥) → nearest_crossing samples place reach ≡ Err NoCrossing
   -- 0 or 1 samples have none
-  pub short : (samples : List ℤ) (place reach : ℕ) → length samples ≤ 1 → nearest_crossing samples place reach ≡ Refused no_crossing
+  pub short : (samples : List ℤ) (place reach : ℕ) → length samples ≤ 1 → nearest_crossing samples place reach ≡ Err NoCrossing
   -- a place that is a crossing itself is found, whatever the reach
-  pub itself : (samples : List ℤ) (place reach : ℕ) → IsCrossing samples place → nearest_crossing samples place reach ≡ Found place
+  pub itself : (samples : List ℤ) (place reach : ℕ) → IsCrossing samples place → nearest_crossing samples place reach ≡ Ok place
   -- and reach 0 asks about the place alone
-  pub alone : (samples : List ℤ) (place i : ℕ) → nearest_crossing samples place 0 ≡ Found i → i ≡ place
+  pub alone : (samples : List ℤ) (place i : ℕ) → nearest_crossing samples place 0 ≡ Ok i → i ≡ place
   -- of 3, -1, -2, 4 the crossings are 1 and 3, which are as far from 2; `negsuc 0` is -1
-  pub earlier_of_two : nearest_crossing (pos 3 ∷ negsuc 0 ∷ negsuc 1 ∷ pos 4 ∷ []) 2 1 ≡ Found 1
+  pub earlier_of_two : nearest_crossing (pos 3 ∷ negsuc 0 ∷ negsuc 1 ∷ pos 4 ∷ []) 2 1 ≡ Ok 1
   -- 0 is not below 0: of 5, 0, -1 the only crossing is 2
-  pub zero_not_below : nearest_crossing (pos 5 ∷ pos 0 ∷ negsuc 0 ∷ []) 0 9 ≡ Found 2
+  pub zero_not_below : nearest_crossing (pos 5 ∷ pos 0 ∷ negsuc 0 ∷ []) 0 9 ≡ Ok 2

@@ -3,7 +3,6 @@
 use Prim.Native.Nat.{ℕ}
 use mathlib.Core.List.{List}
 use mathlib.Core.Path.{◌≡◌}
-use Rattle.refusal.specs.Outcome.{gives}
 use Rattle.field.specs.BigEndian.{Bytes}
 use Rattle.field.specs.Signed.{Samples}
 use Rattle.field.proofs.BigEndianLaws.{bytes_take}
@@ -17,9 +16,10 @@ use Rattle.sheet_read.proofs.VoiceLaws.{form_allowed, form_tidy}
 use Rattle.voice_read.specs.ReadVoice.{Reading, form_of, read_voice}
 use Rattle.voice_read.proofs.ReadLaws.{file_given}
 use Rattle.demands.specs.Demand2.{TidyTexts, Acceptable}
+use Rattle.std.specs.Prelude.{Ok}
 
 module _ (file : List ℕ) (r : Reading) where
-  pub read_sound : Bytes file → read_voice file ≡ gives r → Acceptable r
+  pub read_sound : Bytes file → read_voice file ≡ Ok r → Acceptable r
   read_sound b e =
       let from = file_given file r e in
       let h = r.voice.header in
@@ -37,5 +37,5 @@ module _ (file : List ℕ) (r : Reading) where
         known = (known.compression, known.known);
       }
 
-  pub read_samples : read_voice file ≡ gives r → Samples r.sides.left × Samples r.sides.right
+  pub read_samples : read_voice file ≡ Ok r → Samples r.sides.left × Samples r.sides.right
   read_samples e = let from = file_given file r e in sides_samples r.voice.header (is_stereo r.voice.channel) from.bytes r.sides from.sides

@@ -7,7 +7,7 @@ use Rattle.demands.specs.Demand3.{told_of, Demand3}
 use Rattle.demands.specs.Reckoning.{playing}
 use Rattle.demands.proofs.Played.{played, played_as, made}
 use Rattle.demands.proofs.OneNote.{one_note}
-use Rattle.demands.proofs.FillNumbers.{read_voice_lem, sheet_first, order, by_a_rule, by_none}
+use Rattle.demands.proofs.FillRefusals.{read_voice_lem, sheet_first, order, by_a_rule, by_none}
 
 pub demand3 : Demand3
 demand3 = record {

@@ -10,13 +10,10 @@ use lib.Dec.{eqb}
 use lib.IntN.{ℤ}
 use lib.ListN.{length, length-append}
 use Rattle.laws.proofs.Cases.{impossible}
-use Rattle.refusal.specs.Numbers.{zero_number}
-use Rattle.refusal.specs.Outcome.{gives, refuses}
 use Rattle.field.proofs.BigEndianLaws.{bytes_length}
 use Rattle.header.specs.Compression.{known_compression}
 use Rattle.header.specs.Octaves.{hi, total_samples}
 use Rattle.header.specs.declared.compression.Compression.TheVariants.{None}
-use Rattle.header.specs.declared.compression.KnownCompression.TheVariants.{Known}
 use Rattle.header.specs.declared.voice_header.VoiceHeader.{VoiceHeader}
 use Rattle.header.proofs.HeaderLaws.{header_length}
 use Rattle.chunk.proofs.WriteLaws.{chunk_length_lem}
@@ -30,7 +27,6 @@ use Rattle.body_read.proofs.SideLaws.{right_suits, suit_is}
 use Rattle.voice_read.specs.Parsed.{Lent, lengths_of, reading_leaves}
 use Rattle.voice_read.specs.ReadVoice.{Reading, read_voice}
 use Rattle.voice_read.specs.declared.chunks.Lengths.{Lengths}
-use Rattle.voice_read.specs.declared.chunks.Parsed.TheVariants.{Voice}
 use Rattle.voice_read.proofs.AnswerLaws.{answer_fits}
 use Rattle.voice_write.specs.WriteVoice.{contents, file_of, write_voice}
 use Rattle.voice_write.proofs.WriteLaws.{suited, contents_length, voice_suited, held_fits}
@@ -39,6 +35,8 @@ use Rattle.drawn.proofs.VoiceLaws.{total_most, sides_fit, left_count, right_coun
 use Rattle.demands.specs.DrawnVoices.{RoomFor, ComesBack, LeftComesBack, DrawnVoices}
 use Rattle.demands.proofs.Demand2.{demand2}
 use Rattle.demands.proofs.Played.{ReadOut, read_out}
+use Rattle.refusal.specs.declared.Refusal.TheVariants.{ZeroNumber}
+use Rattle.std.specs.Prelude.{Err, Ok}
 
 -- ---- what the writer asks
 
@@ -54,7 +52,7 @@ channels_suit true n = eq-eqb n n refl
 channels_suit false n = refl
 
 module _ (number : ℕ) where
-  raw : known_compression (drawn_header number).compression_byte ≡ Known None
+  raw : known_compression (drawn_header number).compression_byte ≡ Ok None
   unfolding known_compression drawn_header
   raw = refl
 
@@ -84,7 +82,7 @@ module _ (number : ℕ) where
         either_most stereo (length (channel_bytes None right)) 0 1890 few (omega arith),
       )
 
-  accepted : write_voice (drawn_reading number).voice (drawn_sides number) ≡ gives (file_of (contents (drawn_reading number).voice None (drawn_sides number)))
+  accepted : write_voice (drawn_reading number).voice (drawn_sides number) ≡ Ok (file_of (contents (drawn_reading number).voice None (drawn_sides number)))
   accepted =
       let v = (drawn_reading number).voice in
       voice_suited v (drawn_sides number) None raw (omega (arith, total_most number)) suits ∙ held_fits (contents v None (drawn_sides number)) short
@@ -103,18 +101,18 @@ module _ (number : ℕ) where
 -- ---- what the entries leave
 
 -- a reading is accepted where there is room
-roomy : (r : Reading) (b : Lent) → RoomFor (lengths_of r) b → (reading_leaves (gives r) b).parsed ≡ Voice (lengths_of r)
+roomy : (r : Reading) (b : Lent) → RoomFor (lengths_of r) b → (reading_leaves (Ok r) b).parsed ≡ Ok (lengths_of r)
 roomy r b room =
-    sym (answer_fits (gives r) b.sheet b.left b.right (lengths_of r) (record { reading = r; is = refl; lengths = refl }) room.sheet room.left room.right _ _ _ refl refl refl).0
+    sym (answer_fits (Ok r) b.sheet b.left b.right (lengths_of r) (record { reading = r; is = refl; lengths = refl }) room.sheet room.left room.right _ _ _ refl refl refl).0
 
 -- what was left, if what it was made of comes back
 module _ (number : ℕ) (b : Lent) (l : Lengths) (out : ReadOut (drawn number) b l) (k : ComesBack out.reading) where
-  read_again : (c : Lent) → RoomFor l c → (reading_leaves (read_voice k.file) c).parsed ≡ Voice l
+  read_again : (c : Lent) → RoomFor l c → (reading_leaves (read_voice k.file) c).parsed ≡ Ok l
   read_again c room = rw (k.read, ← out.lengths) (roomy out.reading c (rw out.lengths room))
 
   same : (c : Lent) (room : RoomFor l c) → (read_out (read_voice k.file) c l (read_again c room)).reading ≡ out.reading
   same c room =
-      let e : gives (read_out (read_voice k.file) c l (read_again c room)).reading ≡ gives out.reading = sym (read_out (read_voice k.file) c l (read_again c room)).is ∙ k.read in
+      let e : Ok (read_out (read_voice k.file) c l (read_again c room)).reading ≡ Ok out.reading = sym (read_out (read_voice k.file) c l (read_again c room)).is ∙ k.read in
       cc
 
   left_back : LeftComesBack number b l
@@ -131,15 +129,15 @@ module _ (number : ℕ) (b : Lent) (l : Lengths) (out : ReadOut (drawn number) b
   }
 
 -- what was drawn and accepted is the number's voice
-module _ (number : ℕ) (b : Lent) (l : Lengths) (e : (after_drawing number b).parsed ≡ Voice l) where
+module _ (number : ℕ) (b : Lent) (l : Lengths) (e : (after_drawing number b).parsed ≡ Ok l) where
   nonzero : number ≡ 0 → ⊥
-  nonzero z = let refused : (reading_leaves (refuses zero_number) b).parsed ≡ Voice l = rw (drawn_refuses number z) at e in impossible cc
+  nonzero z = let refused : (reading_leaves (Err ZeroNumber) b).parsed ≡ Ok l = rw (drawn_refuses number z) at e in impossible cc
 
   drawn_out : ReadOut (drawn number) b l
   drawn_out = read_out (drawn number) b l e
 
   is_drawn : drawn_reading number ≡ drawn_out.reading
-  is_drawn = let both : gives (drawn_reading number) ≡ gives drawn_out.reading = sym (drawn_gives number nonzero) ∙ drawn_out.is in cc
+  is_drawn = let both : Ok (drawn_reading number) ≡ Ok drawn_out.reading = sym (drawn_gives number nonzero) ∙ drawn_out.is in cc
 
 pub drawn_voices : DrawnVoices
 drawn_voices = record {

@@ -8,20 +8,21 @@ use mathlib.Core.Path.{◌≡◌, refl, sym, ap, ◌∙◌}
 use native.Mathlib.Nat.{add-zero}
 use lib.IntN.{ℤ}
 use lib.ListN.{length}
-use Rattle.refusal.specs.Outcome.{Outcome, gives, refuses}
 use Rattle.note_frame.specs.declared.chain.Frame.{Frame}
 use Rattle.note_frame.specs.Frames.{frames_from, interleaved}
 use Rattle.note_frame.proofs.FramesLaws.{frames_length, frames_join, interleaved_length, interleaved_half, interleaved_join}
 use Rattle.demands.specs.Reckoning.{put_out}
+use Rattle.refusal.specs.Outcome.{Outcome}
+use Rattle.std.specs.Prelude.{Err, Ok}
 
 -- the block of a call; one turned back has none
 abbrev pub block_of : Outcome (List Frame) → List Frame
-block_of (gives block) = block
-block_of (refuses number) = []
+block_of (Ok block) = block
+block_of (Err refusal) = []
 
 pub put_length : (o : Outcome (List Frame)) → length (put_out o) ≡ 2 * length (block_of o)
-put_length (gives block) = interleaved_length block
-put_length (refuses number) = refl
+put_length (Ok block) = interleaved_length block
+put_length (Err refusal) = refl
 
 -- values that are frames of f in order, from frame n on
 pub record InOrder (f : ℕ → Frame) (n : ℕ) (values : List ℤ) : Type 0 where
@@ -30,13 +31,13 @@ pub record InOrder (f : ℕ → Frame) (n : ℕ) (values : List ℤ) : Type 0 wh
 
 module _ (f : ℕ → Frame) (n : ℕ) where
   pub order_put : (o : Outcome (List Frame)) (values : List ℤ) → block_of o ≡ frames_from f n (length (block_of o)) → InOrder f (n + length (block_of o)) values → InOrder f n (put_out o ++ values)
-  order_put (gives block) values e later =
+  order_put (Ok block) values e later =
       let rest = frames_from f (n + length block) later.count in
       record {
         count = length block + later.count;
         is = ap (λ l. interleaved block ++ l) later.is ∙ rw (frames_join f n (length block) later.count, ← e) (sym (interleaved_join block rest));
       }
-  order_put (refuses number) values e later = rw add-zero at later
+  order_put (Err refusal) values e later = rw add-zero at later
 
   pub order_count : (values : List ℤ) → InOrder f n values → values ≡ interleaved (frames_from f n (length values / 2))
   order_count values o =

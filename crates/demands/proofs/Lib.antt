@@ -1,16 +1,16 @@
 -- The demands proved, and the laws that they rest on.
-pub mod NumberLaws
-pub mod FirstNumbers
-pub mod DecodeNumbers
-pub mod ReadNumbers
-pub mod WriteNumbers
+pub mod RefusalLaws
+pub mod FirstRefusals
+pub mod DecodeRefusals
+pub mod ReadRefusals
+pub mod WriteRefusals
 pub mod Accepted
 pub mod Played
 pub mod InOrder
 pub mod OneNote
-pub mod FillNumbers
-pub mod WaveNumbers
-pub mod MixNumbers
+pub mod FillRefusals
+pub mod WaveRefusals
+pub mod MixRefusals
 pub mod Demand1
 pub mod Demand2
 pub mod Demand3

@@ -9,25 +9,25 @@ use mathlib.Core.Path.{◌≡◌, refl, sym, ap, ◌∙◌}
 use native.Mathlib.Nat.{add-zero, zero-add}
 use native.Mathlib.Omega.{arith}
 use lib.ListN.{length, length-append}
-use Rattle.refusal.specs.Outcome.{Outcome, gives, refuses}
 use Rattle.note_frame.specs.declared.chain.Frame.{Frame}
 use Rattle.note_frame.specs.Frames.{frames_from, sounding}
 use Rattle.note_frame.proofs.FramesLaws.{frames_none, frames_length, frames_same, interleaved_none}
 use Rattle.note_frame.specs.declared.playing.Key.{Key}
 use Rattle.note_frame.specs.declared.playing.Key.TheVariants.{Held, Released}
-use Rattle.note.specs.declared.Answer.{Answer}
 use Rattle.note.proofs.BlockLaws.{block_frames}
 use Rattle.note_frame.proofs.FrameLaws.{frame_put}
 use Rattle.voice_read.specs.ReadVoice.{Reading}
 use Rattle.demands.specs.Reckoning.{Call, fill, key_up, Started, State, playing, at_first, set_by, fill_at, answer_to, grown, put_out, reckon_from}
 use Rattle.demands.specs.Reckoning.{has_key_up, before_key_up, frames_of, note_key, note_frame, Counted, OneNote}
 use Rattle.demands.proofs.InOrder.{block_of, put_length, InOrder, order_put, order_count}
+use Rattle.refusal.specs.Outcome.{Outcome}
+use Rattle.std.specs.Prelude.{Err, Ok}
 
 -- ---- what a fill leaves of the state
 
 grown_is : (o : Outcome (List Frame)) (state : State) → grown o state ≡ record { n = state.n + length (block_of o); u = state.u }
-grown_is (gives block) state = refl
-grown_is (refuses number) state = rw add-zero
+grown_is (Ok block) state = refl
+grown_is (Err refusal) state = rw add-zero
 
 module _ (r : Reading) (s : Started) where
   -- the note's frames, with this key
@@ -45,11 +45,11 @@ module _ (r : Reading) (s : Started) where
       f = frames_by state.u
 
       go : (o : Outcome (List Frame)) → fill_at r s state places ≡ o → block_of o ≡ frames_from f state.n (length (block_of o))
-      go (gives block) e =
+      go (Ok block) e =
           let is = block_frames r.voice r.sides (playing s state.u) state.n places block e in
           let long : length block ≡ places / 2 = ap length is ∙ frames_length f state.n (places / 2) in
           rw long is
-      go (refuses number) e = sym (frames_none f state.n)
+      go (Err refusal) e = sym (frames_none f state.n)
 
   -- the state after a fill
   abbrev filled : State → ℕ → State
@@ -118,14 +118,14 @@ module _ (r : Reading) (s : Started) where
   -- ---- the counts
 
   -- the answer of a fill, of frames f from n on
-  counted_fill : (f : ℕ → Frame) (n places : ℕ) (calls : List Call) (answers : List Answer) (o : Outcome (List Frame)) → block_of o ≡ frames_from f n (length (block_of o))
-      → ((block : List Frame) → o ≡ gives block → length block ≡ places / 2) → Counted f (n + length (block_of o)) calls answers → Counted f n (fill places ∷ calls) (answer_to o ∷ answers)
-  counted_fill f n places calls answers (gives block) is long later =
+  counted_fill : (f : ℕ → Frame) (n places : ℕ) (calls : List Call) (answers : List (Outcome ℕ)) (o : Outcome (List Frame)) → block_of o ≡ frames_from f n (length (block_of o))
+      → ((block : List Frame) → o ≡ Ok block → length block ≡ places / 2) → Counted f (n + length (block_of o)) calls answers → Counted f n (fill places ∷ calls) (answer_to o ∷ answers)
+  counted_fill f n places calls answers (Ok block) is long later =
       let size = long block refl in
       (ap sounding (rw size at is), rw size at later)
-  counted_fill f n places calls answers (refuses number) is long later = rw add-zero at later
+  counted_fill f n places calls answers (Err refusal) is long later = rw add-zero at later
 
-  block_size : (state : State) (places : ℕ) (block : List Frame) → fill_at r s state places ≡ gives block → length block ≡ places / 2
+  block_size : (state : State) (places : ℕ) (block : List Frame) → fill_at r s state places ≡ Ok block → length block ≡ places / 2
   block_size state places block e =
       ap length (block_frames r.voice r.sides (playing s state.u) state.n places block e) ∙ frames_length (frames_by state.u) state.n (places / 2)
 

@@ -11,8 +11,6 @@ use lib.ListN.{length, take, drop, replicate, length-replicate}
 use lib.Seq.{take-append_seam}
 use Rattle.laws.proofs.Cases.{impossible}
 use Rattle.laws.specs.Buffer.{written}
-use Rattle.refusal.specs.Numbers.{buffer_short}
-use Rattle.refusal.specs.Outcome.{Outcome, gives, refuses, and_then}
 use Rattle.sheet.specs.Flat.{flat}
 use Rattle.note_frame.specs.declared.chain.Frame.{Frame}
 use Rattle.note_frame.specs.declared.playing.Key.{Key}
@@ -27,33 +25,35 @@ use Rattle.note_calls.specs.Made.{is_key_up, host_calls, answer_number, room_for
 use Rattle.voice_read.specs.Parsed.{Lent, ReadResult, lengths_of, fits, written_to, reading_leaves}
 use Rattle.voice_read.specs.ReadVoice.{Reading, read_voice}
 use Rattle.voice_read.specs.declared.chunks.Lengths.{Lengths}
-use Rattle.voice_read.specs.declared.chunks.Parsed.TheVariants.{Voice, Refused}
 use Rattle.demands.specs.Demand2.{Acceptable}
 use Rattle.demands.specs.Demand3.{told_of, told_by, sheet_read, sides_read, fresh_note, WasRead}
 use Rattle.demands.specs.Reckoning.{Call, fill, key_up, Started, State, playing, at_first, set_by, fill_at, answer_to, grown, put_out, reckon_from, reckon}
 use Rattle.demands.proofs.Accepted.{read_sound}
+use Rattle.refusal.specs.declared.Refusal.TheVariants.{BufferShort}
+use Rattle.refusal.specs.Outcome.{Outcome, and_then}
+use Rattle.std.specs.Prelude.{Err, Ok}
 
 -- ---- what reading put out
 
 -- a reading whose outputs are what the buffers hold, cut to their lengths
 pub record ReadOut (o : Outcome Reading) (b : Lent) (l : Lengths) : Type 0 where
   pub reading : Reading
-  pub is : o ≡ gives reading
+  pub is : o ≡ Ok reading
   pub lengths : lengths_of reading ≡ l
   pub sheet : take l.sheet (reading_leaves o b).buffers.sheet ≡ flat reading.voice
   pub left : take l.left (reading_leaves o b).buffers.left ≡ reading.sides.left
   pub right : take l.right (reading_leaves o b).buffers.right ≡ reading.sides.right
 
-pub read_out : (o : Outcome Reading) (b : Lent) (l : Lengths) → (reading_leaves o b).parsed ≡ Voice l → ReadOut o b l
-read_out (gives r) b l e = go (fits r (length b.sheet) (length b.left) (length b.right)) refl e
+pub read_out : (o : Outcome Reading) (b : Lent) (l : Lengths) → (reading_leaves o b).parsed ≡ Ok l → ReadOut o b l
+read_out (Ok r) b l e = go (fits r (length b.sheet) (length b.left) (length b.right)) refl e
   where
     fitting : ReadResult
-    fitting = record { parsed = Voice (lengths_of r); buffers = written_to r b }
+    fitting = record { parsed = Ok (lengths_of r); buffers = written_to r b }
 
     short : ReadResult
-    short = record { parsed = Refused buffer_short; buffers = b }
+    short = record { parsed = Err BufferShort; buffers = b }
 
-    go : (t : Bool) → fits r (length b.sheet) (length b.left) (length b.right) ≡ t → (cond t fitting short).parsed ≡ Voice l → ReadOut (gives r) b l
+    go : (t : Bool) → fits r (length b.sheet) (length b.left) (length b.right) ≡ t → (cond t fitting short).parsed ≡ Ok l → ReadOut (Ok r) b l
     go true p e =
         let same : lengths_of r ≡ l = cc in
         record {
@@ -65,7 +65,7 @@ read_out (gives r) b l e = go (fits r (length b.sheet) (length b.left) (length b
           right = rw (← same, p) (take-append_seam r.sides.right (drop (length r.sides.right) b.right));
         }
     go false p e = impossible cc
-read_out (refuses number) b l e = impossible cc
+read_out (Err refusal) b l e = impossible cc
 
 -- ---- the calls
 
@@ -83,23 +83,23 @@ module _ (s : Started) where
   note_key_up n (Released u) = refl
 
   note_fill : (o : Outcome (List Frame)) (state : State) (buffer : List ℤ) → (fill_leaves o (note_at s state) buffer).note ≡ note_at s (grown o state)
-  note_fill (gives block) state buffer =
+  note_fill (Ok block) state buffer =
       let same : min (min state.n 4294967295 + length block) 4294967295 ≡ min (state.n + length block) 4294967295 = omega arith in
       rw same
-  note_fill (refuses number) state buffer = refl
+  note_fill (Err refusal) state buffer = refl
 
 pub behind_key_up : (n : ℕ) (u : Key) → Behind (record { n = n; u = u }) → Behind (record { n = n; u = set_by u n })
 behind_key_up n Held h = omega arith
 behind_key_up n (Released u) h = h
 
 pub behind_fill : (o : Outcome (List Frame)) (state : State) → Behind state → Behind (grown o state)
-behind_fill (gives block) state h = never_ahead state.u (min state.n 4294967295) (min (state.n + length block) 4294967295) (omega arith) h
-behind_fill (refuses number) state h = h
+behind_fill (Ok block) state h = never_ahead state.u (min state.n 4294967295) (min (state.n + length block) 4294967295) (omega arith) h
+behind_fill (Err refusal) state h = h
 
 -- what a fill puts out, by its outcome
 fill_puts : (o : Outcome (List Frame)) (n : Note) (buffer : List ℤ) (later : PutOut) → then_fill (fill_leaves o n buffer) later ≡ before (answer_to o) (put_out o) later
-fill_puts (gives block) n buffer later = refl
-fill_puts (refuses number) n buffer later = refl
+fill_puts (Ok block) n buffer later = refl
+fill_puts (Err refusal) n buffer later = refl
 
 module _ (r : Reading) (a : Acceptable r) (s : Started) where
   -- the fill of a host's note is the reckoning's
@@ -120,18 +120,18 @@ module _ (r : Reading) (a : Acceptable r) (s : Started) where
 -- ---- the theorem
 
 module _ (file : List ℕ) (b : Lent) (l : Lengths) (s : Started) (was : WasRead file b l) where
-  pub played : (calls : List HostCall) → reckon file s (map told_of calls) ≡ gives (play (sheet_read file b l) (sides_read file b l) (fresh_note s) calls)
+  pub played : (calls : List HostCall) → reckon file s (map told_of calls) ≡ Ok (play (sheet_read file b l) (sides_read file b l) (fresh_note s) calls)
   played calls =
       let out = read_out (read_voice file) b l was.accepted in
       let same = calls_same out.reading (read_sound file out.reading was.bytes out.is) s calls at_first tt in
-      ap (λ o. and_then o (λ r. gives (reckon_from r s at_first (map told_of calls)))) out.is ∙ rw (out.sheet, out.left, out.right) (ap gives same)
+      ap (λ o. and_then o (λ r. Ok (reckon_from r s at_first (map told_of calls)))) out.is ∙ rw (out.sheet, out.left, out.right) (ap Ok same)
 
   -- the same of a reading that is known
-  pub played_as : (r : Reading) → read_voice file ≡ gives r → (calls : List HostCall)
+  pub played_as : (r : Reading) → read_voice file ≡ Ok r → (calls : List HostCall)
       → reckon_from r s at_first (map told_of calls) ≡ play (sheet_read file b l) (sides_read file b l) (fresh_note s) calls
   played_as r is calls =
-      let reckoned : ◌≡◌ {A = Outcome PutOut} (gives (reckon_from r s at_first (map told_of calls))) (gives (play (sheet_read file b l) (sides_read file b l) (fresh_note s) calls)) =
-      sym (ap (λ o. and_then o (λ x. gives (reckon_from x s at_first (map told_of calls)))) is) ∙ played calls in
+      let reckoned : ◌≡◌ {A = Outcome PutOut} (Ok (reckon_from r s at_first (map told_of calls))) (Ok (play (sheet_read file b l) (sides_read file b l) (fresh_note s) calls)) =
+      sym (ap (λ o. and_then o (λ x. Ok (reckon_from x s at_first (map told_of calls)))) is) ∙ played calls in
       cc
 
 -- ---- calls in numbers
@@ -146,11 +146,11 @@ told_by_lem (call ∷ calls) = go (is_key_up call) (told_by_lem calls)
     go false later = rw length-replicate (ap (λ (cs : List Call). fill call ∷ cs) later)
 
 pub made : (file : List ℕ) (b : Lent) (l : Lengths) (s : Started) (calls : List ℕ) (blocks : List ℤ) (answers : List ℕ) (p : PutOut) → WasRead file b l
-    → room_for calls (length blocks) (length answers) ≡ true → reckon file s (map told_by calls) ≡ gives p →
+    → room_for calls (length blocks) (length answers) ≡ true → reckon file s (map told_by calls) ≡ Ok p →
     let left = after_calls (sheet_read file b l) (sides_read file b l) (fresh_note s) calls blocks answers in
     (left.blocks ≡ written p.blocks blocks) × (left.answers ≡ written (map answer_number p.answers) answers)
 made file b l s calls blocks answers p was room reckoned =
     let out = play (sheet_read file b l) (sides_read file b l) (fresh_note s) (host_calls calls) in
-    let same : ◌≡◌ {A = Outcome PutOut} (gives out) (gives p) = sym (played file b l s was (host_calls calls)) ∙ rw (told_by_lem calls) reckoned in
+    let same : ◌≡◌ {A = Outcome PutOut} (Ok out) (Ok p) = sym (played file b l s was (host_calls calls)) ∙ rw (told_by_lem calls) reckoned in
     let is : out ≡ p = cc in
     rw (room, is) (refl, refl)

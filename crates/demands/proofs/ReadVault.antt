@@ -3,7 +3,7 @@
 use Prim.Native.Nat.{◌^◌, ◌<◌}
 use mathlib.Core.Bool.{true, false, not, ◌||◌}
 use mathlib.Core.List.{List}
-use mathlib.Core.Path.{◌≡◌, refl, sym, ap, ◌∙◌}
+use mathlib.Core.Path.{◌≡◌, refl, ap, ◌∙◌}
 use borrow.Author.Tests.{lt-leb, eqb-true}
 use lib.Dec.{eqb}
 use lib.IntN.{ℤ}
@@ -28,7 +28,7 @@ stored : (h : VoiceHeader) (channel : List ℤ) → Samples channel → total_sa
 stored h channel fits total long =
     let counted = first_later _ _ (lt-leb (2 ^ 64) (total_samples h) total) in
     let suited = first_later _ _ (ap not (suit_is h false (length channel) 0 refl ∙ long)) in
-    let given = by_gives octave_order h channel (sym (counted ∙ suited ∙ first_none)) in
+    let given = by_gives octave_order h channel (counted ∙ suited ∙ first_none) in
     record { values = each_octave octave_order h channel; ordered = given; back = (vault.promise).restored h channel (each_octave octave_order h channel) fits given }
 
 module _ (r : Reading) (sound : Acceptable r) where

@@ -1,7 +1,6 @@
 -- Table P, every row computed from the definitions; the whole file is read by way of demand 2.
 -- Assumes nothing.
 use mathlib.Core.Path.{refl, ap}
-use Rattle.refusal.specs.Outcome.{gives}
 use Rattle.refusal.specs.Rules.{first_holding}
 use Rattle.header.specs.Octaves.{total_samples}
 use Rattle.small_chunks.specs.Pan.{held_to_unity}
@@ -18,14 +17,15 @@ use Rattle.note.specs.Fill.{fill_voice}
 use Rattle.demands.specs.Reckoning.{reckon_from}
 use Rattle.demands.specs.TableP.{TableP, EqualDistances}
 use Rattle.demands.proofs.Demand2.{demand2}
+use Rattle.std.specs.Prelude.{Ok}
 
 pub table_p : TableP
 unfolding level_at on_the_way scaled_by value faded_at shares_of reckon_from fill_voice first_holding fill_rules total_samples lengths_suit
     all_valid joined_length frames_from interleaved sounding frame frame_by frame_at path_of loop_path level_of attack_level held_to_unity
 table_p = record {
-  up_and_down = ap gives fibonacci.rises;
-  wraps_above = ap gives fibonacci.wraps_up;
-  wraps_below = ap gives fibonacci.wraps_down;
+  up_and_down = ap Ok fibonacci.rises;
+  wraps_above = ap Ok fibonacci.wraps_up;
+  wraps_below = ap Ok fibonacci.wraps_down;
   one_byte = fibonacci.short;
   one_up = fibonacci.one_up;
   smaller_of_two = fibonacci.tie_up;

@@ -2,19 +2,18 @@
 -- drawing is refused, and that a refused one leaves its buffers as they were, is proved as `drawn_refused`. What the code
 -- does comes in by three names, which are what the contracts say: `after_drawing` (drawn_voice), `write_sheet` (encode_voice) and
 -- `after_reading` (parse_voice).
-use Rattle.std.specs.Prelude.{ℕ, ◌≤◌, ◌<◌, List, [], ◌∷◌, ◌≡◌, length, take}
+use Rattle.std.specs.Prelude.{ℕ, ◌≤◌, ◌<◌, List, [], ◌∷◌, ◌≡◌, length, take, Err, Ok}
 use Rattle.laws.specs.Among.{Among}
-use Rattle.refusal.specs.Numbers.{zero_number, buffer_short}
-use Rattle.refusal.specs.Outcome.{gives}
 use Rattle.sheet.specs.Flat.{flat}
 use Rattle.body_read.specs.Sides.{Sides}
 use Rattle.voice_read.specs.Parsed.{Lent, after_reading}
 use Rattle.voice_read.specs.ReadVoice.{Reading, read_voice}
 use Rattle.voice_read.specs.declared.chunks.Lengths.{Lengths}
-use Rattle.voice_read.specs.declared.chunks.Parsed.TheVariants.{Voice, Refused}
 use Rattle.voice_write.specs.WriteVoice.{write_sheet}
 use Rattle.drawn.specs.DrawnVoice.{drawn, after_drawing}
 use Rattle.demands.specs.Demand3.{sheet_read, sides_read}
+use Rattle.refusal.specs.declared.Refusal.TheVariants.{ZeroNumber, BufferShort}
+use Rattle.refusal.specs.declared.Refusal.{Refusal}
 
 -- three buffers have room for so many bytes and samples
 pub record RoomFor (l : Lengths) (b : Lent) : Type 0 where
@@ -33,30 +32,31 @@ sides_drawn number b l = record { left = take l.left (after_drawing number b).bu
 -- a voice that the writer accepts and the reader gives back: its file
 pub record ComesBack (r : Reading) : Type 0 where
   pub file : List ℕ
-  pub written : write_sheet (flat r.voice) r.sides ≡ gives file
-  pub read : read_voice file ≡ gives r
+  pub written : write_sheet (flat r.voice) r.sides ≡ Ok file
+  pub read : read_voice file ≡ Ok r
 
 -- the same of what drawing left in buffers: reading its file, into whatever buffers have room, gives the lengths, the sheet and the sides that were drawn
 pub record LeftComesBack (number : ℕ) (b : Lent) (l : Lengths) : Type 0 where
   pub file : List ℕ
-  pub written : write_sheet (sheet_drawn number b l) (sides_drawn number b l) ≡ gives file
-  pub lengths : (c : Lent) → RoomFor l c → (after_reading file c).parsed ≡ Voice l
+  pub written : write_sheet (sheet_drawn number b l) (sides_drawn number b l) ≡ Ok file
+  pub lengths : (c : Lent) → RoomFor l c → (after_reading file c).parsed ≡ Ok l
   pub sheet : (c : Lent) → RoomFor l c → sheet_read file c l ≡ sheet_drawn number b l
   pub sides : (c : Lent) → RoomFor l c → sides_read file c l ≡ sides_drawn number b l
 
 -- of every number but 0, so from 1 to 2^32 - 1
 pub record DrawnVoices : Type 0 where
   -- it gives a voice that comes back
-  pub voice : (number : ℕ) → 0 < number → (r : Reading) × (drawn number ≡ gives r) × ComesBack r
+  pub voice : (number : ℕ) → 0 < number → (r : Reading) × (drawn number ≡ Ok r) × ComesBack r
   -- drawing it into buffers of 23, 1,890 and 1,890 places is accepted
-  pub accepted : (number : ℕ) (b : Lent) → 0 < number → RoomFor (record { sheet = 23; left = 1890; right = 1890 }) b → (l : Lengths) × ((after_drawing number b).parsed ≡ Voice l)
+  pub accepted : (number : ℕ) (b : Lent) → 0 < number → RoomFor (record { sheet = 23; left = 1890; right = 1890 }) b → (l : Lengths) × ((after_drawing number b).parsed ≡ Ok l)
   -- and what an accepted drawing left comes back
-  pub left : (number : ℕ) (b : Lent) (l : Lengths) → (after_drawing number b).parsed ≡ Voice l → LeftComesBack number b l
+  pub left : (number : ℕ) (b : Lent) (l : Lengths) → (after_drawing number b).parsed ≡ Ok l → LeftComesBack number b l
 
 -- drawing a voice: 48
-abbrev pub drawn_numbers : List ℕ
-drawn_numbers = zero_number ∷ []
+abbrev pub drawn_refusals : List Refusal
+drawn_refusals = ZeroNumber ∷ []
 
 -- drawn_voice is refused by 48 or 20, and then sheet, left and right are as they were
 pub record DrawnRefused : Type 0 where
-  pub drawn_voice : (number : ℕ) (b : Lent) (n : ℕ) → (after_drawing number b).parsed ≡ Refused n → Among n (buffer_short ∷ drawn_numbers) × ((after_drawing number b).buffers ≡ b)
+  pub drawn_voice : (number : ℕ) (b : Lent) (refusal : Refusal) → (after_drawing number b).parsed ≡ Err refusal
+      → Among refusal (BufferShort ∷ drawn_refusals) × ((after_drawing number b).buffers ≡ b)

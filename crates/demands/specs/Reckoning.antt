@@ -1,6 +1,5 @@
 -- The reckoning of a list of calls: it is fed the file's bytes, what starting was given, and each call; its state is n and u alone.
-use Rattle.std.specs.Prelude.{ℕ, ◌+◌, ◌/◌, min, Bool, true, false, cond, List, [], ◌∷◌, ◌≡◌, ℤ, length}
-use Rattle.refusal.specs.Outcome.{Outcome, gives, refuses, and_then}
+use Rattle.std.specs.Prelude.{ℕ, ◌+◌, ◌/◌, min, Bool, true, false, cond, List, [], ◌∷◌, ◌≡◌, ℤ, length, Err, Ok}
 use Rattle.note_frame.specs.Frame.{frame}
 use Rattle.note_frame.specs.Frames.{frames_from, interleaved, sounding}
 use Rattle.note_frame.specs.declared.chain.Frame.{Frame}
@@ -8,10 +7,9 @@ use Rattle.note_frame.specs.declared.playing.Key.{Key}
 use Rattle.note_frame.specs.declared.playing.Key.TheVariants.{Held, Released}
 use Rattle.note_frame.specs.declared.playing.Playing.{Playing}
 use Rattle.note.specs.Fill.{fill_voice}
-use Rattle.note.specs.declared.Answer.{Answer}
-use Rattle.note.specs.declared.Answer.TheVariants.{Sounding, Refused}
 use Rattle.note_calls.specs.Play.{PutOut, before}
 use Rattle.voice_read.specs.ReadVoice.{Reading, read_voice}
+use Rattle.refusal.specs.Outcome.{Outcome, and_then}
 
 -- a call: a fill with its number of places, or a key-up
 pub data Call : Type 0 where
@@ -43,24 +41,24 @@ abbrev pub set_by : Key → ℕ → Key
 set_by Held n = Released (min n 4294967295)
 set_by (Released u) n = Released u
 
--- a fill of so many places: the next frames from frame n on, with key-up at u, or the number that turns it back
+-- a fill of so many places: the next frames from frame n on, with key-up at u, or the refusal that turns it back
 abbrev pub fill_at : Reading → Started → State → ℕ → Outcome (List Frame)
 fill_at r s state places = fill_voice r.voice r.sides (playing s state.u) state.n places
 
--- it answers how many of them aren't over, or that number
-abbrev pub answer_to : Outcome (List Frame) → Answer
-answer_to (gives block) = Sounding (sounding block)
-answer_to (refuses number) = Refused number
+-- it answers how many of them aren't over, or that refusal
+abbrev pub answer_to : Outcome (List Frame) → Outcome ℕ
+answer_to (Ok block) = Ok (sounding block)
+answer_to (Err refusal) = Err refusal
 
 -- n grows by the block; a fill turned back changes nothing
 abbrev pub grown : Outcome (List Frame) → State → State
-grown (gives block) state = record { n = state.n + length block; u = state.u }
-grown (refuses number) state = state
+grown (Ok block) state = record { n = state.n + length block; u = state.u }
+grown (Err refusal) state = state
 
 -- a fill turned back puts out nothing
 abbrev pub put_out : Outcome (List Frame) → List ℤ
-put_out (gives block) = interleaved block
-put_out (refuses number) = []
+put_out (Ok block) = interleaved block
+put_out (Err refusal) = []
 
 -- the reckoning from a state on
 unfoldable pub reckon_from : Reading → Started → State → List Call → PutOut
@@ -71,7 +69,7 @@ reckon_from r s state (key_up ∷ calls) = reckon_from r s (record { n = state.n
 
 -- the reckoning, fed the file's bytes
 abbrev pub reckon : List ℕ → Started → List Call → Outcome PutOut
-reckon file s calls = and_then (read_voice file) (λ r. gives (reckon_from r s at_first calls))
+reckon file s calls = and_then (read_voice file) (λ r. Ok (reckon_from r s at_first calls))
 
 -- ---- the one note
 
@@ -104,12 +102,12 @@ abbrev pub first_frames : Reading → Started → Key → ℕ → List ℤ
 first_frames r s key d = interleaved (frames_from (note_frame r s key) 0 d)
 
 -- each accepted fill's answer is the number of the frames in its own block that aren't over, of frames f from n on
-abbrev pub Counted : (ℕ → Frame) → ℕ → List Call → List Answer → Type 0
+abbrev pub Counted : (ℕ → Frame) → ℕ → List Call → List (Outcome ℕ) → Type 0
 Counted f n [] answers = answers ≡ []
 Counted f n (key_up ∷ calls) answers = Counted f n calls answers
 Counted f n (fill places ∷ calls) [] = ⊥
-Counted f n (fill places ∷ calls) (Sounding count ∷ answers) = (count ≡ sounding (frames_from f n (places / 2))) × Counted f (n + places / 2) calls answers
-Counted f n (fill places ∷ calls) (Refused number ∷ answers) = Counted f n calls answers
+Counted f n (fill places ∷ calls) (Ok count ∷ answers) = (count ≡ sounding (frames_from f n (places / 2))) × Counted f (n + places / 2) calls answers
+Counted f n (fill places ∷ calls) (Err refusal ∷ answers) = Counted f n calls answers
 
 -- what calls put out is one note: its first frames, as many as they hold, and for each accepted fill the count of its own
 pub record OneNote (r : Reading) (s : Started) (calls : List Call) (out : PutOut) : Type 0 where

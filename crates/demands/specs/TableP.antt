@@ -1,21 +1,18 @@
 -- Table P: examples of the meanings, every row, as one theorem, and beside it two of equal distances. They are proved as `table_p` and
 -- `equal_distances`.
-use Rattle.std.specs.Prelude.{ℕ, ◌-◌, ◌^◌, List, [], ◌∷◌, ◌≡◌, ℤ, pos, negsuc, length, take}
-use Rattle.refusal.specs.Numbers.{channel_short, octave_total}
-use Rattle.refusal.specs.Outcome.{gives, refuses}
+use Rattle.std.specs.Prelude.{ℕ, ◌-◌, ◌^◌, List, [], ◌∷◌, ◌≡◌, ℤ, pos, negsuc, length, take, Err, Ok}
 use Rattle.header.specs.Octaves.{total}
-use Rattle.header.specs.declared.voice_header.Total.TheVariants.{Sum, Refused}
 use Rattle.header.specs.declared.voice_header.VoiceHeader.{VoiceHeader}
 use Rattle.small_chunks.specs.declared.points.EgPoint.{EgPoint}
 use Rattle.fibonacci.specs.Decode.{fib_samples, fib_channel}
 use Rattle.fibonacci.specs.Encode.{fib_bytes}
 use Rattle.envelope.specs.Envelope.{level_at}
 use Rattle.note_frame.specs.Frame.{value}
-use Rattle.note.specs.declared.Answer.TheVariants as Answer
 use Rattle.voice_read.specs.ReadVoice.{read_voice}
 use Rattle.voice_write.specs.WriteVoice.{write_voice}
 use Rattle.demands.specs.Demand2.{example_file, example_voice, example_sides}
 use Rattle.demands.specs.Reckoning.{fill, reckon}
+use Rattle.refusal.specs.declared.Refusal.TheVariants.{ChannelShort, OctaveTotal}
 
 -- an envelope of one point
 abbrev pub one_point : ℕ → ℤ → List EgPoint
@@ -36,13 +33,13 @@ one_sample n = record {
 -- all rows; `negsuc n` is -(n + 1)
 pub record TableP : Type 0 where
   -- 00 64 F1: 100, 121, 100
-  pub up_and_down : fib_channel (0x00 ∷ 0x64 ∷ 0xF1 ∷ []) ≡ gives (pos 100 ∷ pos 121 ∷ pos 100 ∷ [])
+  pub up_and_down : fib_channel (0x00 ∷ 0x64 ∷ 0xF1 ∷ []) ≡ Ok (pos 100 ∷ pos 121 ∷ pos 100 ∷ [])
   -- 00 7F F8: 127, -108, -108
-  pub wraps_above : fib_channel (0x00 ∷ 0x7F ∷ 0xF8 ∷ []) ≡ gives (pos 127 ∷ negsuc 107 ∷ negsuc 107 ∷ [])
+  pub wraps_above : fib_channel (0x00 ∷ 0x7F ∷ 0xF8 ∷ []) ≡ Ok (pos 127 ∷ negsuc 107 ∷ negsuc 107 ∷ [])
   -- 00 80 00: -128, 94, 60
-  pub wraps_below : fib_channel (0x00 ∷ 0x80 ∷ 0x00 ∷ []) ≡ gives (negsuc 127 ∷ pos 94 ∷ pos 60 ∷ [])
+  pub wraps_below : fib_channel (0x00 ∷ 0x80 ∷ 0x00 ∷ []) ≡ Ok (negsuc 127 ∷ pos 94 ∷ pos 60 ∷ [])
   -- byte 00 alone: 12
-  pub one_byte : fib_channel (0x00 ∷ []) ≡ refuses channel_short
+  pub one_byte : fib_channel (0x00 ∷ []) ≡ Err ChannelShort
   -- writing 0, 1: 00 00 98
   pub one_up : fib_bytes (pos 0 ∷ pos 1 ∷ []) ≡ 0x00 ∷ 0x00 ∷ 0x98 ∷ []
   -- writing 0, 4: 00 00 B8
@@ -56,18 +53,18 @@ pub record TableP : Type 0 where
   -- from 65,536 to 0 in 3 ms: t = 1 gives 43,691
   pub on_the_way_down : level_at (one_point 3 (pos 0)) (pos 65536) 1 ≡ pos 43691
   -- hi 1, 64 octaves: total 2^64 - 1
-  pub largest_total : total (one_sample 64) ≡ Sum (2 ^ 64 - 1)
+  pub largest_total : total (one_sample 64) ≡ Ok (2 ^ 64 - 1)
   -- 65 octaves: 13
-  pub octave_past_it : total (one_sample 65) ≡ Refused octave_total
+  pub octave_past_it : total (one_sample 65) ≡ Err OctaveTotal
   -- sample -2, all full: -512
   pub all_full : value example_voice 0 127 0 65536 (negsuc 1) 65536 ≡ negsuc 511
   -- the whole file reads as its voice and its sample
-  pub whole_file_read : read_voice example_file ≡ gives (record { voice = example_voice; sides = example_sides })
+  pub whole_file_read : read_voice example_file ≡ Ok (record { voice = example_voice; sides = example_sides })
   -- and they write as the file
-  pub whole_file_written : write_voice example_voice example_sides ≡ gives example_file
+  pub whole_file_written : write_voice example_voice example_sides ≡ Ok example_file
   -- a block of two frames of it is -512 on both sides, then over
   pub whole_file_played : reckon example_file (record { octave = 0; velocity = 127; step = 65536; rate = 8000 }) (fill 4 ∷ [])
-      ≡ gives (record { answers = Answer.Sounding 1 ∷ []; blocks = negsuc 511 ∷ negsuc 511 ∷ pos 0 ∷ pos 0 ∷ [] })
+      ≡ Ok (record { answers = Ok 1 ∷ []; blocks = negsuc 511 ∷ negsuc 511 ∷ pos 0 ∷ pos 0 ∷ [] })
 
 -- what samples become by being written and decoded: as many as they were
 abbrev pub written_and_decoded : List ℤ → List ℤ

@@ -9,27 +9,28 @@ use native.Mathlib.Omega.{arith}
 use borrow.Author.Tests.{le-leb}
 use lib.Dec.{eqb}
 use lib.ListN.{length}
-use Rattle.refusal.specs.Numbers.{zero_number, buffer_short}
-use Rattle.refusal.specs.Outcome.{gives, refuses}
-use Rattle.refusal.specs.Rules.{first_holding}
+use Rattle.refusal.specs.Outcome.{accepted}
+use Rattle.refusal.specs.Rules.{first_holding, unless_refused}
 use Rattle.field.specs.BigEndian.{big_endian_bytes}
 use Rattle.field.specs.Signed.{twos_complement}
 use Rattle.header.specs.Header.{header_bytes}
 use Rattle.header.specs.Octaves.{total_samples}
 use Rattle.sheet.specs.Flat.{flat}
-use Rattle.voice_read.specs.Parsed.{Lent, fits, reading_leaves}
+use Rattle.voice_read.specs.Parsed.{Lent, lengths_of, fits, reading_leaves}
 use Rattle.drawn.specs.Draw.{xor_left, xor_right, next_draw, nth_draw, draws}
 use Rattle.drawn.specs.DrawnVoice.{two_channels, drawn_header, drawn_samples, drawn_sides, drawn_reading, drawn, after_drawing}
-use Rattle.drawn.specs.Promise.{drawn_rules, drawn_answer, samples_drawn, Promise}
+use Rattle.drawn.specs.Promise.{drawn_rules, samples_drawn, Promise}
 use Rattle.drawn.proofs.DrawLaws.{nth_after, draws_at, samples_after}
 use Rattle.drawn.proofs.VoiceLaws.{sheet_most, left_most, right_most}
+use Rattle.refusal.specs.declared.Refusal.TheVariants.{ZeroNumber, BufferShort}
+use Rattle.std.specs.Prelude.{Err, Ok}
 
-answered : (number : ℕ) (b : Lent) → (after_drawing number b).parsed ≡ drawn_answer (first_holding (drawn_rules number b)) number
+answered : (number : ℕ) (b : Lent) → (after_drawing number b).parsed ≡ unless_refused (first_holding (drawn_rules number b)) (lengths_of (drawn_reading number))
 unfolding drawn first_holding
 answered number b = go (eqb number 0) (fits (drawn_reading number) (length b.sheet) (length b.left) (length b.right)) refl
   where
     go : (t u : Bool) → fits (drawn_reading number) (length b.sheet) (length b.left) (length b.right) ≡ u
-        → (reading_leaves (cond t (refuses zero_number) (gives (drawn_reading number))) b).parsed ≡ drawn_answer (cond t zero_number (cond (not u) buffer_short 0)) number
+        → (reading_leaves (cond t (Err ZeroNumber) (Ok (drawn_reading number))) b).parsed ≡ unless_refused (cond t (Err ZeroNumber) (cond (not u) (Err BufferShort) accepted)) (lengths_of (drawn_reading number))
     go true u e = refl
     go false true e = rw e
     go false false e = rw e

@@ -10,7 +10,6 @@
 use Prim.Native.Nat.{ℕ, ◌+◌, ◌-◌, ◌%◌, ◌^◌, ◌≤◌, ◌<◌}
 use mathlib.Core.Bool.{Bool, true, false, cond}
 use mathlib.Core.List.{List, [], ◌∷◌, ◌++◌, append-nil}
-use mathlib.Core.Option.{none, some}
 use mathlib.Core.Path.{◌≡◌, refl, sym, ap, ◌∙◌}
 use native.Mathlib.Nat.{mul-le-mul}
 use native.Mathlib.Omega.{arith}
@@ -20,8 +19,6 @@ use lib.IntN.{ℤ}
 use lib.ListN.{length, length-append}
 use lib.Pow.{pow_mono}
 use Rattle.laws.specs.Buffer.{written}
-use Rattle.refusal.specs.Numbers.{zero_number}
-use Rattle.refusal.specs.Outcome.{gives, refuses}
 use Rattle.field.specs.Signed.{Samples}
 use Rattle.field.proofs.SignedLaws.{none_fits}
 use Rattle.header.specs.Header.{header_bytes, Fitting}
@@ -33,11 +30,12 @@ use Rattle.sheet.specs.Allowed.{Allowed}
 use Rattle.sheet.specs.Flat.{flat}
 use Rattle.sheet.specs.Voice.{is_stereo}
 use Rattle.voice_read.specs.declared.chunks.Lengths.{Lengths}
-use Rattle.voice_read.specs.declared.chunks.Parsed.TheVariants.{Voice}
 use Rattle.voice_read.proofs.AnswerLaws.{Measured, Answered, lent, answer_fits}
 use Rattle.drawn.specs.Draw.{nth_draw, draws}
 use Rattle.drawn.specs.DrawnVoice.{two_channels, one_shot_beside, drawn_header, plain_voice, drawn_samples, drawn_sides, drawn_reading, drawn}
 use Rattle.drawn.proofs.DrawLaws.{nth_after, samples_length, samples_fit}
+use Rattle.refusal.specs.declared.Refusal.TheVariants.{ZeroNumber}
+use Rattle.std.specs.Prelude.{Err, None, Ok, Some}
 
 -- ---- the sheet
 
@@ -145,11 +143,11 @@ module _ (number : ℕ) where
   pub right_most : length (drawn_sides number).right ≤ 1890
   right_most = rw (right_count number) (either_most (two_channels number) (total_samples (drawn_header number)) 0 1890 (total_most number) (omega arith))
 
-pub drawn_refuses : (number : ℕ) → number ≡ 0 → drawn number ≡ refuses zero_number
+pub drawn_refuses : (number : ℕ) → number ≡ 0 → drawn number ≡ Err ZeroNumber
 unfolding drawn
 drawn_refuses number zero = rw (eq-eqb number 0 zero)
 
-pub drawn_gives : (number : ℕ) → (number ≡ 0 → ⊥) → drawn number ≡ gives (drawn_reading number)
+pub drawn_gives : (number : ℕ) → (number ≡ 0 → ⊥) → drawn number ≡ Ok (drawn_reading number)
 unfolding drawn
 drawn_gives number other = rw (ne_eqb number 0 other)
 
@@ -161,7 +159,7 @@ drawn_allowed number = record { header = header_fits number; pan = tt; attacks =
 pub drawn_stereo : (number : ℕ) → is_stereo (drawn_reading number).voice.channel ≡ two_channels number
 drawn_stereo number = go (two_channels number)
   where
-    go : (t : Bool) → is_stereo (cond t (some Stereo) none) ≡ t
+    go : (t : Bool) → is_stereo (cond t (Some Stereo) None) ≡ t
     go true = refl
     go false = refl
 
@@ -200,7 +198,7 @@ module _ {number : ℕ} {h : VoiceHeader} {stereo : Bool} {last : ℕ} {l : Leng
   pub outputs_drawn : (sheet sheet' : List ℕ) (left left' right right' : List ℤ) (after : ℕ) → l.sheet ≤ length sheet → l.left ≤ length left → l.right ≤ length right
       → sheet' ≡ written (flat (plain_voice h stereo)) sheet → left' ≡ written (drawn_samples l.left last) left
       → after ≡ nth_draw l.left last → right' ≡ written (drawn_samples l.right after) right
-      → Answered (drawn number) (Voice l) (lent sheet left right) (lent sheet' left' right')
+      → Answered (drawn number) (Ok l) (lent sheet left right) (lent sheet' left' right')
   unfolding measured
   outputs_drawn sheet sheet' left left' right right' after hs hl hr es el ea er =
       answer_fits (drawn number) sheet left right l measured hs hl hr sheet' left' right'

@@ -1,8 +1,5 @@
 -- The voice that is drawn from a number: the same number gives the same voice wherever it is drawn.
-use Rattle.std.specs.Prelude.{ℕ, ◌+◌, ◌%◌, Bool, cond, List, [], map, eqb, ℤ}
-use Rattle.std.proofs.Math.Option.{none, some}
-use Rattle.refusal.specs.Numbers.{zero_number}
-use Rattle.refusal.specs.Outcome.{Outcome, gives, refuses}
+use Rattle.std.specs.Prelude.{ℕ, ◌+◌, ◌%◌, Bool, cond, List, [], map, eqb, ℤ, Err, None, Ok, Some}
 use Rattle.field.specs.Signed.{sample_of}
 use Rattle.header.specs.Octaves.{total_samples}
 use Rattle.header.specs.declared.voice_header.VoiceHeader.{VoiceHeader}
@@ -12,6 +9,8 @@ use Rattle.body_read.specs.Sides.{Sides}
 use Rattle.voice_read.specs.Parsed.{Lent, ReadResult, reading_leaves}
 use Rattle.voice_read.specs.ReadVoice.{Reading}
 use Rattle.drawn.specs.Draw.{nth_draw, draws}
+use Rattle.refusal.specs.declared.Refusal.TheVariants.{ZeroNumber}
+use Rattle.refusal.specs.Outcome.{Outcome}
 
 -- ---- the first five draws: channels, octaves, one-shot, repeat, rate
 
@@ -39,12 +38,12 @@ drawn_header number = record {
 abbrev pub plain_voice : VoiceHeader → Bool → Voice
 plain_voice h stereo = record {
   header = h;
-  channel = cond stereo (some Stereo) none;
-  pan = none;
+  channel = cond stereo (Some Stereo) None;
+  pan = None;
   attacks = [];
   releases = [];
-  sequence = none;
-  fade = none;
+  sequence = None;
+  fade = None;
   texts = [];
 }
 
@@ -71,7 +70,7 @@ drawn_reading number = record { voice = plain_voice (drawn_header number) (two_c
 
 -- 48 for 0, from which every draw would be 0
 unfoldable pub drawn : ℕ → Outcome Reading
-drawn number = cond (eqb number 0) (refuses zero_number) (gives (drawn_reading number))
+drawn number = cond (eqb number 0) (Err ZeroNumber) (Ok (drawn_reading number))
 
 -- what `drawn_voice` leaves: answer and buffers as if such a voice had been read, so 20 where one of them is too short
 abbrev pub after_drawing : ℕ → Lent → ReadResult

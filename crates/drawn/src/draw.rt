@@ -22,11 +22,9 @@ pub(crate) fn put_samples(number: u32, n: usize, out: &mut [i8]) -> u32
     ensures buffer { out.new ≡ written (drawn_samples n number) out.old }
 {
     let mut x = number;
-    let mut i = 0;
-    while i < n {
+    for i in 0..n {
         x = draw(x);
         out[i] = sample_of_byte((x % 256) as u8);
-        i += 1;
     }
     x
 }

@@ -6,7 +6,7 @@ ghost use Rattle.drawn.specs.Draw.{nth_draw};
 ghost use Rattle.drawn.specs.DrawnVoice.{two_channels, one_shot_beside, drawn_header, plain_voice};
 
 use crate::draw::draw;
-use header::{Total, VoiceHeader};
+use header::VoiceHeader;
 use voice_read::Lengths;
 
 // Header and channels, and the fifth draw, from which the samples are drawn.
@@ -61,8 +61,8 @@ fn channel_length(h: VoiceHeader) -> usize
     ensures { result ≡ total_samples h }
 {
     match h.total_samples_per_channel() {
-        Total::Sum(n) => n as usize,
-        Total::Refused(_) => 0,
+        Ok(n) => n as usize,
+        Err(_) => 0,
     }
 }
 

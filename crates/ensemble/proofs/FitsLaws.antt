@@ -4,7 +4,6 @@
 use Prim.Native.Nat.{ℕ, ◌≤◌}
 use mathlib.Core.Bool.{Bool, true, false, cond}
 use mathlib.Core.List.{List}
-use mathlib.Core.Option.{Option, none, some}
 use mathlib.Core.Path.{◌≡◌, refl}
 use borrow.Author.Tests.{ltb-true, ltb-false}
 use lib.Dec.{leb, ltb}
@@ -31,6 +30,7 @@ use Rattle.note_frame.specs.declared.playing.Playing.{Playing}
 use Rattle.note_frame.proofs.ChainLaws.{before_sides_fits}
 use Rattle.note_frame.proofs.FrameLaws.{frame_is, frame_last}
 use Rattle.note_frame.proofs.GainsLaws.{gains_bounded}
+use Rattle.std.specs.Prelude.{None, Option, Some}
 
 -- both sides' values are 16-bit ones
 abbrev pub FrameFits : Frame → Type 0
@@ -38,8 +38,8 @@ FrameFits f = SFits w16 f.left × SFits w16 f.right
 
 -- a level, where there is one, is at most 65,536
 abbrev Small : Option ℕ → Type 0
-Small none = Unit
-Small (some level) = level ≤ 65536
+Small None = Unit
+Small (Some level) = level ≤ 65536
 
 small_attack : (v : Voice) (rate p : ℕ) → attack_level v rate p ≤ 65536
 unfolding attack_level
@@ -50,7 +50,7 @@ unfolding level_of release_level
 small_level v rate Held p = small_attack v rate p
 small_level v rate (Released u) p = go (leb u p) (leb (total_duration (joined v.releases)) (ms_since rate u p)) _ (held_le _)
   where
-    go : (a b : Bool) (level : ℕ) → level ≤ 65536 → Small (cond a (cond b none (some level)) (some (attack_level v rate p)))
+    go : (a b : Bool) (level : ℕ) → level ≤ 65536 → Small (cond a (cond b None (Some level)) (Some (attack_level v rate p)))
     go true true level h = tt
     go true false level h = h
     go false b level h = small_attack v rate p
@@ -66,12 +66,12 @@ module _ (g : Gains) (bounded : Bounded g) (left right : List ℤ) (all_left : S
 
   with_fits : (place level : Option ℕ) → Small level → FrameFits (frame_with g left right q place level)
   unfolding frame_with
-  with_fits (some i) (some level) l = (
+  with_fits (Some i) (Some level) l = (
     value_fits level g.left_share (get_or left i (pos 0)) l bounded.left_small (all_left i),
     value_fits level g.right_share (get_or (cond g.stereo right left) i (pos 0)) l bounded.right_small (all_second g.stereo i),
   )
-  with_fits (some i) none l = (omega zarith, omega zarith)
-  with_fits none level l = (omega zarith, omega zarith)
+  with_fits (Some i) None l = (omega zarith, omega zarith)
+  with_fits None level l = (omega zarith, omega zarith)
 
 pub frame_fits : (v : Voice) (s : Sides) (n : Playing) (p : ℕ) → Samples s.left → Samples s.right → n.velocity ≤ 127 → FrameFits (frame v s n p)
 frame_fits v s n p left right small = go (ltb p 4294967295) refl

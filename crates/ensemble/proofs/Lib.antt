@@ -3,3 +3,4 @@ pub mod MixLaws
 pub mod FitsLaws
 pub mod AcceptedLaws
 pub mod Promise
+pub mod ByValueLaws

@@ -3,7 +3,6 @@
 --     filled_length                               the buffer keeps its length
 --     part_length, take_zeros, zeros_back         the part of the buffer that a stretch is lent, and of sums that are 0
 --     stretch_ready                               what a stretch asks
---     less_left                                   fewer frames are left
 -- Assumes nothing.
 use Prim.Native.Nat.{ℕ, ◌+◌, ◌-◌, ◌*◌, ◌/◌, ◌%◌, ◌≤◌, ◌<◌, min}
 use mathlib.Core.List.{List, ◌++◌, append_assoc}
@@ -109,6 +108,3 @@ stretch_ready score rate at next end most sheet l left right totals part mixable
       even = omega arith;
       none_yet = zeros ∙ ap (λ (n : ℕ). replicate n (pos 0)) (sym long);
     }
-
-pub less_left : (at end next : ℕ) → at < next → next ≤ end → end - next < end - at
-less_left at end next a b = omega arith

@@ -27,6 +27,7 @@ use Rattle.ensemble_score.specs.declared.Entry.{Entry}
 use Rattle.ensemble_rules.specs.Rules.{entry_rules}
 use Rattle.ensemble_block.specs.Mixed.{entry_note, entry_frame}
 use Rattle.ensemble_block.specs.Stretch.{Calm, key_at, playing_at}
+use Rattle.std.specs.Prelude.{Ok}
 
 -- ---- the key
 
@@ -89,7 +90,7 @@ module _ (v : Voice) (rate at : ℕ) (e : Entry) where
   note_none none = (none.1.0, (none.1.1.0, (none.1.1.1.0, (key_then, none.1.1.1.1))))
 
   pub entry_accepted : (left right places : ℕ) → NoneHolds (voice_rules v left right) → NoneHolds (sequence_rules v) → NoneHolds (entry_rules v rate e) → places % 2 ≡ 0
-      → first_holding (fill_rules v left right (playing_at rate at e) (at - e.start) places) ≡ 0
+      → first_holding (fill_rules v left right (playing_at rate at e) (at - e.start) places) ≡ Ok tt
   entry_accepted left right places voice sequence entry even =
       let n = playing_at rate at e in
       let m = at - e.start in

@@ -2,11 +2,12 @@
 --     mixed_last, mixed_is              silence from mixed frame 4,294,967,295 on, and a frame up to there
 --     no_entry, one_entry               of no entries: silence; of one that starts at 0: its note
 --     none_together, next_together      no frames at once, and one more
+--     last_together                     one more past the last
 --     held_frames, plus_frames          the values of frames, held, and added to those of others
 -- Assumes nothing.
 use Prim.Native.Nat.{ℕ, zero, suc, ◌-◌, ◌≤◌, ◌<◌}
-use mathlib.Core.Bool.{Bool, true, false, or-false}
-use mathlib.Core.List.{List, [], ◌∷◌, map}
+use mathlib.Core.Bool.{Bool, true, false, ◌||◌, or-false}
+use mathlib.Core.List.{List, [], ◌∷◌, ◌++◌, map}
 use mathlib.Core.Path.{◌≡◌, refl, sym, ap, ◌∙◌}
 use native.Mathlib.Omega.{arith}
 use borrow.Author.Tests.{lt-ltb, le-ltb, ltb-true, ltb-false}
@@ -25,6 +26,7 @@ use Rattle.ensemble_sums.specs.Sums.{held_to16, plus}
 use Rattle.ensemble_sums.proofs.SumLaws.{held_same, held_zero}
 use Rattle.ensemble_block.specs.Mixed.{entry_note, entry_frame, together, all_together, held_frame, mixed_frame}
 use Rattle.ensemble_block.proofs.EntryLaws.{entry_started}
+use Rattle.std.proofs.lemmas.Int.{ints}
 
 -- ---- frames at once
 
@@ -35,6 +37,23 @@ none_together = refl
 pub next_together : (f : Frame) (fs : List Frame) → all_together (f ∷ fs) ≡ together f (all_together fs)
 unfolding all_together
 next_together f fs = refl
+
+-- the last of them as the first
+sums_swap : (a b c : ℤ) → b +ℤ (a +ℤ c) ≡ a +ℤ (b +ℤ c)
+sums_swap a b c = omega (arith, ints)
+
+sounds_swap : (a b c : Bool) → (b || (a || c)) ≡ (a || (b || c))
+sounds_swap true true c = refl
+sounds_swap true false c = refl
+sounds_swap false b c = refl
+
+together_swap : (f g h : Frame) → together g (together f h) ≡ together f (together g h)
+together_swap f g h = rw (sums_swap f.left g.left h.left, sums_swap f.right g.right h.right, sounds_swap f.sounds g.sounds h.sounds)
+
+pub last_together : (fs : List Frame) (f : Frame) → all_together (fs ++ (f ∷ [])) ≡ together f (all_together fs)
+unfolding all_together
+last_together [] f = refl
+last_together (g ∷ fs) f = ap (together g) (last_together fs f) ∙ together_swap f g (all_together fs)
 
 -- ---- a mixed frame
 

@@ -1,7 +1,7 @@
 -- Where a stretch ends: entry by entry it is cut at a start and at a key-up that lie within it.
 --     cut_past, cut_within                      an event that lies before, or past, the stretch's first frame
 --     calm_before, all_at                       an end that comes sooner; one of those for which something holds
---     stretch_none, stretch_all, stretch_more   of no entries, of all, and of one more
+--     stretch_all, stretch_more                 of all entries, and of one more
 -- Assumes nothing.
 use Prim.Native.Nat.{ℕ, zero, suc, ◌+◌, ◌≤◌, ◌<◌, min}
 use mathlib.Core.Bool.{Bool, true, false}
@@ -14,10 +14,10 @@ use lib.Dec.{leb}
 use lib.ListN.{length, take, get_or}
 use lib.Seq.{take_all}
 use Rattle.sheet.specs.Allowed.{All}
-use Rattle.ensemble_score.specs.Score.{entry_in, listed}
 use Rattle.ensemble_score.specs.declared.Entry.{Entry}
-use Rattle.ensemble_score.proofs.ScoreLaws.{taken_next}
+use Rattle.ensemble_rules.proofs.RuleLaws.{blank}
 use Rattle.ensemble_block.specs.Stretch.{Calm, StretchTo, cut_at}
+use Rattle.std.proofs.lemmas.List.{take_more}
 
 -- ---- an event
 
@@ -58,18 +58,14 @@ all_at P [] i d all h = absurd (not-suc-le-zero h)
 all_at P (a ∷ as') zero d all h = all.0
 all_at P (a ∷ as') (suc i) d all h = all_at P as' i d all.1 (le_of_suc-le-suc h)
 
-pub stretch_none : (at end most next : ℕ) → at < end → 0 < most → next ≡ min end (at + most) → StretchTo [] at end most next
-stretch_none at end most next some room is = record { some = omega arith; within = omega arith; short = omega arith; calm = tt }
-
 pub stretch_all : (score : List Entry) (at end most i next : ℕ) → length score ≤ i → StretchTo (take i score) at end most next → StretchTo score at end most next
 stretch_all score at end most i next h s = rw (take_all i score h) at s
 
-pub stretch_more : (count : ℕ) (numbers : List ℕ) (at end most i next next' : ℕ) (e : Entry) → i < count → e ≡ entry_in numbers i
-    → next' ≡ cut_at at (cut_at at next e.start) e.key_up
-    → StretchTo (take i (listed count numbers)) at end most next → StretchTo (take (i + 1) (listed count numbers)) at end most next'
-stretch_more count numbers at end most i next next' e there is cut s =
-    let seen = take i (listed count numbers) in
-    let one_more : take (i + 1) (listed count numbers) ≡ seen ++ (e ∷ []) = rw is (taken_next numbers count i there) in
+pub stretch_more : (score : List Entry) (at end most i next next' : ℕ) → i < length score → next' ≡ cut_at at (cut_at at next (get_or score i blank).start) (get_or score i blank).key_up
+    → StretchTo (take i score) at end most next → StretchTo (take (i + 1) score) at end most next'
+stretch_more score at end most i next next' there cut s =
+    let e : Entry = get_or score i blank in
+    let seen = take i score in
     let a = cut_is at next e.start s.some in
     let b = cut_is at (cut_at at next e.start) e.key_up a.0 in
     let sooner : next' ≤ next = omega (arith, a.1, b.1, cut) in
@@ -78,5 +74,5 @@ stretch_more count numbers at end most i next next' e there is cut s =
       some = omega (arith, b.0, cut);
       within = omega (arith, s.within);
       short = omega (arith, s.short);
-      calm = rw one_more (all_more (Calm at next') seen e (all_before at next next' seen sooner s.calm) here);
+      calm = rw (take_more score i blank there) (all_more (Calm at next') seen e (all_before at next next' seen sooner s.calm) here);
     }

@@ -1,12 +1,11 @@
 -- A stretch of mixed frames in which no entry starts and none is released, so that each is silent, held or released throughout. What the
 -- code asks and gives. No reader of the definition of a mixed frame needs it.
-use Rattle.std.specs.Prelude.{ℕ, ◌+◌, ◌-◌, ◌%◌, ◌/◌, ◌≤◌, ◌<◌, ◌^◌, min, cond, List, ◌≡◌, leb, ℤ, pos, length, replicate}
+use Rattle.std.specs.Prelude.{ℕ, ◌+◌, ◌-◌, ◌%◌, ◌/◌, ◌≤◌, ◌<◌, ◌^◌, min, cond, List, ◌≡◌, leb, ℤ, pos, length, replicate, Ok}
 use Rattle.refusal.specs.Rules.{NoneHolds}
 use Rattle.sheet.specs.Allowed.{All}
 use Rattle.sheet.specs.Judge.{judged}
 use Rattle.sheet.specs.Read.{read_sheet}
 use Rattle.sheet.specs.Voice.{Voice}
-use Rattle.sheet.specs.declared.judge.Judged.TheVariants.{Sound}
 use Rattle.sheet_layout.specs.Layout.{layout_of}
 use Rattle.sheet_layout.specs.declared.Layout.{Layout}
 use Rattle.voice_rules.specs.Rules.{voice_rules}
@@ -55,7 +54,7 @@ pub record GoodEntry (v : Voice) (rate : ℕ) (e : Entry) : Type 0 where
 
 -- sheet, sides and a score that no rule turns back
 pub record Mixable (score : List Entry) (rate : ℕ) (sheet : List ℕ) (l : Layout) (left right : List ℤ) : Type 0 where
-  pub sound : judged sheet ≡ Sound
+  pub sound : judged sheet ≡ Ok tt
   pub layout_is : l ≡ layout_of (read_sheet sheet)
   pub voice_good : NoneHolds (voice_rules (read_sheet sheet) (length left) (length right))
   pub sequence_good : NoneHolds (sequence_rules (read_sheet sheet))
@@ -71,7 +70,7 @@ pub record StretchReady (score : List Entry) (rate at : ℕ) (sheet : List ℕ) 
 
 -- what one entry of it asks, with sums that a further value leaves within 32 bits
 pub record EntryReady (e : Entry) (rate at : ℕ) (sheet : List ℕ) (l : Layout) (left right sums out : List ℤ) : Type 0 where
-  pub sound : judged sheet ≡ Sound
+  pub sound : judged sheet ≡ Ok tt
   pub layout_is : l ≡ layout_of (read_sheet sheet)
   pub voice_good : NoneHolds (voice_rules (read_sheet sheet) (length left) (length right))
   pub sequence_good : NoneHolds (sequence_rules (read_sheet sheet))

@@ -2,14 +2,12 @@
 ghost use Rattle.std.specs.Prelude.{◌≡◌, ◌/◌, ◌≤◌, ◌<◌, ◌^◌, pos, length, replicate};
 ghost use Rattle.sheet.specs.Read.{read_sheet};
 ghost use Rattle.note_frame.specs.Frames.{frames_from, interleaved};
-ghost use Rattle.ensemble_score.specs.Score.{listed};
 ghost use Rattle.ensemble_block.specs.Mixed.{mixed_frame};
 ghost use Rattle.ensemble_block.specs.Stretch.{cut_at, StretchTo, StretchReady};
 
 use crate::entry::add_entry;
-use ensemble_score::nth_entry;
+use ensemble_score::Entry;
 use ensemble_sums::put_held;
-use note_block::least;
 use sheet_layout::Layout;
 
 // An end, or an event that lies past `at` and before it.
@@ -20,35 +18,25 @@ fn cut_at(at: usize, end: usize, event: u32) -> usize
     if frame <= at {
         return end;
     }
-    least(end, frame)
+    end.min(frame)
 }
 
 // The end of the stretch from mixed frame `at` on, which has at most `most` frames.
-pub(crate) fn stretch_end(
-    count: usize,
-    numbers: &[u32; 80],
-    at: usize,
-    end: usize,
-    most: usize,
-) -> usize
-    requires { (at < end) × (end < 2 ^ 32) × (count ≤ 16) × (0 < most) × (most < 2 ^ 32) }
-    ensures { StretchTo (listed count numbers.now) at end most result }
+pub(crate) fn stretch_end(score: &[Entry], at: usize, end: usize, most: usize) -> usize
+    requires { (at < end) × (end < 2 ^ 32) × (0 < most) × (most < 2 ^ 32) }
+    ensures { StretchTo score.now at end most result }
 {
-    let mut next = least(end, at + most);
-    let mut i = 0;
-    while i < count {
-        let e = nth_entry(numbers, i);
+    let mut next = end.min(at + most);
+    for e in score {
         let before_start = cut_at(at, next, e.start);
         next = cut_at(at, before_start, e.key_up);
-        i += 1;
     }
     next
 }
 
 // The mixed frames of a stretch. The sums are 0 before and after.
 pub(crate) fn mix_stretch(
-    count: usize,
-    numbers: &[u32; 80],
+    score: &[Entry],
     rate: u32,
     at: usize,
     sheet: &[u8],
@@ -58,15 +46,12 @@ pub(crate) fn mix_stretch(
     sums: &mut [i32],
     out: &mut [i16],
 )
-    requires { StretchReady (listed count numbers.now) rate at sheet.now l left.now right.now sums.old out.old × (count ≤ 16) }
-    ensures out { out.new ≡ interleaved (frames_from (mixed_frame (read_sheet sheet.now) (record { left = left.entry.now; right = right.now }) rate (listed count numbers.now)) at (length out.old / 2)) }
+    requires { StretchReady score.now rate at sheet.now l left.now right.now sums.old out.old × (length score.now ≤ 16) }
+    ensures out { out.new ≡ interleaved (frames_from (mixed_frame (read_sheet sheet.now) (record { left = left.entry.now; right = right.now }) rate score.now) at (length out.old / 2)) }
     ensures sums { sums.new ≡ replicate (length sums.old) (pos 0) }
 {
-    let mut i = count;
-    while 0 < i {
-        i -= 1;
-        let e = nth_entry(numbers, i);
-        add_entry(e, rate, at, sheet, l, left, right, sums, out);
+    for entry in score {
+        add_entry(*entry, rate, at, sheet, l, left, right, sums, out);
     }
     put_held(sums, out);
 }

@@ -1,7 +1,8 @@
 -- The rules of a mix, by their parts and entry by entry.
 --     order_is, entries_are                          the rules of a score that has a first entry; order_none, entries_none of one that has none
+--     order_turned, order_passed, order_end          the first that holds of the entries from a place on, by the entry there, or past the last;
+--     entries_turned, entries_passed, entries_end    the same of the entries' rules on a voice
 --     held_first                                     the first that holds of a note that begins and is held: no key-up is ahead
---     score_numbered, play_numbered, rules_numbered  none has the number 0
 --     play_are                                       those that follow the score's own: the voice's, the sequence's, the places' and the entries'
 --     mix_first, mix_score                           the first that holds: of the score's own, or else of the others
 --     mix_holds                                      one that holds is among the score's own or the others
@@ -9,17 +10,15 @@
 --     score_small, score_ends                        what the score's own rules leave: at most sixteen entries, no key-up before its start
 --     mix_numbers_lem                                the numbers, in the order in which they are judged
 -- Assumes nothing.
-use Prim.Native.Nat.{ℕ, ◌≤◌}
+use Prim.Native.Nat.{ℕ, ◌+◌, ◌≤◌, ◌<◌}
 use mathlib.Core.Bool.{not}
 use mathlib.Core.List.{List, [], ◌∷◌, ◌++◌, map-append}
-use mathlib.Core.Path.{◌≡◌, refl, sym, ap, ap₂, subst, ◌∙◌}
-use native.Mathlib.Omega.{arith}
+use mathlib.Core.Path.{◌≡◌, refl, ap, ap₂, subst, ◌∙◌}
 use borrow.Author.Tests.{ltb-false}
 use lib.Dec.{ltb}
-use lib.ListN.{length}
-use Rattle.refusal.specs.Numbers.{no_octave, start_order, early_key_up}
+use lib.ListN.{length, get_or, drop, drop_of_length-le}
 use Rattle.refusal.specs.Rules.{Rule, rule, first_holding, numbers_of, Holds, NoneHolds}
-use Rattle.refusal.proofs.RuleLaws.{Numbered, numbered_by, first_join, first_stands, none_parts, numbered_join}
+use Rattle.refusal.proofs.RuleLaws.{first_none, first_join, first_stands, none_parts}
 use Rattle.header.specs.Octaves.{octave_there}
 use Rattle.header.specs.declared.voice_header.VoiceHeader.{VoiceHeader}
 use Rattle.sheet.specs.Allowed.{All}
@@ -29,15 +28,21 @@ use Rattle.voice_rules.specs.Rules.{voice_rules}
 use Rattle.note_rules.specs.Rules.{sequence_rules, place_rules, speed_rules, velocity_rules, note_rules}
 use Rattle.ensemble_score.specs.declared.Entry.{Entry}
 use Rattle.ensemble_rules.specs.Rules.{order_rules, score_rules, entry_rules, entries_rules, play_rules, mix_rules, order_numbers, entry_numbers}
+use Rattle.refusal.specs.declared.Refusal.TheVariants.{NoOctave, StartOrder, EarlyKeyUp}
+use Rattle.refusal.specs.Refusal.{number_of}
+use Rattle.refusal.specs.declared.Refusal.{Refusal}
+use Rattle.std.proofs.lemmas.List.{drop_more}
+use Rattle.std.specs.Prelude.{Ok, Err}
 
--- ---- a score that has a first entry, or none
+-- ---- the entries that a loop has left
+
+-- an entry of zeros, which the code would read past a score's end
+abbrev pub blank : Entry
+blank = record { start = 0; key_up = 0; step = 0; octave = 0; velocity = 0 }
 
 -- 45 and 47, of one entry
 abbrev pub entry_order : ℕ → Entry → List Rule
-entry_order before e = rule start_order (ltb e.start before) ∷ rule early_key_up (ltb e.key_up e.start) ∷ []
-
-pub entry_order_numbered : (before : ℕ) (e : Entry) → Numbered (entry_order before e)
-entry_order_numbered before e = numbered_by (entry_order before e) tt
+entry_order before e = rule StartOrder (ltb e.start before) ∷ rule EarlyKeyUp (ltb e.key_up e.start) ∷ []
 
 pub order_is : (before : ℕ) (e : Entry) (es : List Entry) → order_rules before (e ∷ es) ≡ entry_order before e ++ order_rules e.start es
 unfolding order_rules
@@ -48,9 +53,6 @@ unfolding order_rules
 order_none before = refl
 
 module _ (v : Voice) (rate : ℕ) where
-  pub entry_numbered : (e : Entry) → Numbered (entry_rules v rate e)
-  entry_numbered e = numbered_by (entry_rules v rate e) tt
-
   pub entries_are : (e : Entry) (es : List Entry) → entries_rules v rate (e ∷ es) ≡ entry_rules v rate e ++ entries_rules v rate es
   unfolding entries_rules
   entries_are e es = refl
@@ -59,27 +61,42 @@ module _ (v : Voice) (rate : ℕ) where
   unfolding entries_rules
   entries_none = refl
 
+module _ (score : List Entry) (i : ℕ) where
+  -- past the last nothing is left
+  module _ (end : length score ≤ i) where
+    pub order_end : (before : ℕ) → first_holding (order_rules before (drop i score)) ≡ Ok tt
+    order_end before = rw (drop_of_length-le score {i = i} end, order_none) first_none
+
+    pub entries_end : (v : Voice) (rate : ℕ) → first_holding (entries_rules v rate (drop i score)) ≡ Ok tt
+    entries_end v rate = rw (drop_of_length-le score {i = i} end, entries_none) first_none
+
+  module _ (more : i < length score) where
+    -- the entry at the place
+    abbrev there : Entry
+    there = get_or score i blank
+
+    module _ (before : ℕ) where
+      pub order_turned : (refusal : Refusal) → first_holding (entry_order before there) ≡ Err refusal → first_holding (order_rules before (drop i score)) ≡ Err refusal
+      order_turned refusal e = rw (drop_more score i blank more, order_is) (first_stands (entry_order before there) _ refusal e)
+
+      pub order_passed : first_holding (entry_order before there) ≡ Ok tt
+          → first_holding (order_rules before (drop i score)) ≡ first_holding (order_rules there.start (drop (i + 1) score))
+      order_passed none = rw (drop_more score i blank more, order_is) (first_join (entry_order before there) _ none)
+
+    module _ (v : Voice) (rate : ℕ) where
+      pub entries_turned : (refusal : Refusal) → first_holding (entry_rules v rate there) ≡ Err refusal → first_holding (entries_rules v rate (drop i score)) ≡ Err refusal
+      entries_turned refusal e = rw (drop_more score i blank more, entries_are) (first_stands (entry_rules v rate there) _ refusal e)
+
+      pub entries_passed : first_holding (entry_rules v rate there) ≡ Ok tt
+          → first_holding (entries_rules v rate (drop i score)) ≡ first_holding (entries_rules v rate (drop (i + 1) score))
+      entries_passed none = rw (drop_more score i blank more, entries_are) (first_join (entry_rules v rate there) _ none)
+
 -- a note that begins and is held
 pub held_first : (h : VoiceHeader) (octave velocity step rate : ℕ) →
     first_holding (note_rules h (record { octave = octave; velocity = velocity; step = step; rate = rate; key = Held }) 0)
-    ≡ first_holding (rule no_octave (not (octave_there h octave)) ∷ speed_rules step rate ++ velocity_rules velocity)
+    ≡ first_holding (rule NoOctave (not (octave_there h octave)) ∷ speed_rules step rate ++ velocity_rules velocity)
 unfolding first_holding
 held_first h octave velocity step rate = refl
-
--- ---- none has the number 0
-
-order_numbered : (before : ℕ) (score : List Entry) → Numbered (order_rules before score)
-order_numbered before [] = rw order_none tt
-order_numbered before (e ∷ es) =
-    rw order_is (numbered_join (entry_order before e) (order_rules e.start es) (entry_order_numbered before e) (order_numbered e.start es))
-
-pub score_numbered : (score : List Entry) → Numbered (score_rules score)
-score_numbered score = (λ z. omega arith, order_numbered 0 score)
-
-entries_numbered : (v : Voice) (rate : ℕ) (score : List Entry) → Numbered (entries_rules v rate score)
-entries_numbered v rate [] = rw entries_none tt
-entries_numbered v rate (e ∷ es) =
-    rw entries_are (numbered_join (entry_rules v rate e) (entries_rules v rate es) (entry_numbered v rate e) (entries_numbered v rate es))
 
 -- ---- none holds
 
@@ -129,22 +146,14 @@ module _ (v : Voice) (left right : ℕ) (score : List Entry) (rate places : ℕ)
   unfolding mix_rules
   rules_are = refl
 
-  pub play_numbered : Numbered (play_rules v left right score rate places)
-  play_numbered =
-      let parts = voice_rules v left right ++ sequence_rules v ++ place_rules places in
-      subst Numbered (sym play_are) (numbered_join parts (entries_rules v rate score) (numbered_by parts tt) (entries_numbered v rate score))
+  pub mix_first : first_holding (score_rules score) ≡ Ok tt → first_holding (mix_rules v left right score rate places) ≡ first_holding (play_rules v left right score rate places)
+  mix_first none = rw rules_are (first_join (score_rules score) (play_rules v left right score rate places) none)
 
-  pub rules_numbered : Numbered (mix_rules v left right score rate places)
-  rules_numbered = rw rules_are (numbered_join (score_rules score) (play_rules v left right score rate places) (score_numbered score) play_numbered)
+  pub mix_score : (refusal : Refusal) → first_holding (score_rules score) ≡ Err refusal → first_holding (mix_rules v left right score rate places) ≡ Err refusal
+  mix_score refusal e = rw rules_are (first_stands (score_rules score) (play_rules v left right score rate places) refusal e)
 
-  pub mix_first : first_holding (score_rules score) ≡ 0 → first_holding (mix_rules v left right score rate places) ≡ first_holding (play_rules v left right score rate places)
-  mix_first none = rw rules_are (first_join (score_rules score) (play_rules v left right score rate places) (score_numbered score) none)
-
-  pub mix_score : (first_holding (score_rules score) ≡ 0 → ⊥) → first_holding (mix_rules v left right score rate places) ≡ first_holding (score_rules score)
-  mix_score some = rw rules_are (first_stands (score_rules score) (play_rules v left right score rate places) some)
-
-  pub mix_holds : (n : ℕ) → Holds n (mix_rules v left right score rate places) → Holds n (score_rules score ++ play_rules v left right score rate places)
-  mix_holds n h = rw rules_are at h
+  pub mix_holds : (refusal : Refusal) → Holds refusal (mix_rules v left right score rate places) → Holds refusal (score_rules score ++ play_rules v left right score rate places)
+  mix_holds refusal h = rw rules_are at h
 
   pub play_parts : NoneHolds (play_rules v left right score rate places)
       → NoneHolds (voice_rules v left right) × NoneHolds (sequence_rules v) × NoneHolds (place_rules places) × All (λ e. NoneHolds (entry_rules v rate e)) score
@@ -157,4 +166,4 @@ module _ (v : Voice) (left right : ℕ) (score : List Entry) (rate places : ℕ)
   pub mix_numbers_lem : numbers_of (mix_rules v left right score rate places) ≡ 46 ∷ order_numbers score ++ (10 ∷ 13 ∷ 18 ∷ 21 ∷ 22 ∷ 23 ∷ 25 ∷ entry_numbers score)
   mix_numbers_lem =
       let play = ap (λ ns. 10 ∷ 13 ∷ 18 ∷ 21 ∷ 22 ∷ 23 ∷ 25 ∷ ns) (entries_numbers v rate score) in
-      rw rules_are (map-append (λ (r : Rule). r.number) (score_rules score) (play_rules v left right score rate places) ∙ ap₂ (λ ms ns. 46 ∷ ms ++ ns) (order_numbers_lem 0 score) play)
+      rw rules_are (map-append (λ (r : Rule). number_of r.refusal) (score_rules score) (play_rules v left right score rate places) ∙ ap₂ (λ ms ns. 46 ∷ ms ++ ns) (order_numbers_lem 0 score) play)

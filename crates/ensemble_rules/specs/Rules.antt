@@ -2,28 +2,28 @@
 -- voice's (10, 13, 18), the sequence's (21 to 23), the places' (25), and then, entry by entry, 24, 31, 32, 33 and 44. 15 to 17, the sheet's
 -- own, come between the score's and the voice's. There is no 34: a key-up may lie ahead.
 use Rattle.std.specs.Prelude.{ℕ, not, List, [], ◌∷◌, ◌++◌, ltb, length}
-use Rattle.refusal.specs.Numbers.{no_octave, start_order, entry_count, early_key_up}
 use Rattle.refusal.specs.Rules.{Rule, rule}
 use Rattle.header.specs.Octaves.{octave_there}
 use Rattle.sheet.specs.Voice.{Voice}
 use Rattle.voice_rules.specs.Rules.{voice_rules}
 use Rattle.note_rules.specs.Rules.{sequence_rules, octave_rules, place_rules, speed_rules, velocity_rules}
 use Rattle.ensemble_score.specs.declared.Entry.{Entry}
+use Rattle.refusal.specs.declared.Refusal.TheVariants.{NoOctave, StartOrder, EntryCount, EarlyKeyUp}
 
 -- 45 and 47, of each entry: its start is below the start of the one before it; its key-up is below its start
 unfoldable pub order_rules : ℕ → List Entry → List Rule
 order_rules before [] = []
-order_rules before (e ∷ es) = rule start_order (ltb e.start before) ∷ rule early_key_up (ltb e.key_up e.start) ∷ order_rules e.start es
+order_rules before (e ∷ es) = rule StartOrder (ltb e.start before) ∷ rule EarlyKeyUp (ltb e.key_up e.start) ∷ order_rules e.start es
 
 -- the score's own: 46, and then those of its entries; before the first no start can fall
 abbrev pub score_rules : List Entry → List Rule
-score_rules score = rule entry_count (ltb 16 (length score)) ∷ order_rules 0 score
+score_rules score = rule EntryCount (ltb 16 (length score)) ∷ order_rules 0 score
 
 -- 24, 31, 32, 33 and 44, of an entry at an output rate
 abbrev pub entry_rules : Voice → ℕ → Entry → List Rule
 entry_rules v rate e =
     octave_rules v e.octave
-    ++ rule no_octave (not (octave_there v.header e.octave))
+    ++ rule NoOctave (not (octave_there v.header e.octave))
     ∷ speed_rules e.step rate
     ++ velocity_rules e.velocity
 

@@ -1,50 +1,43 @@
 // 46, 45 and 47: the score by itself.
-ghost use Rattle.std.specs.Prelude.{◌≡◌, [], ◌∷◌, ◌≤◌, ltb};
-ghost use Rattle.refusal.specs.Numbers.{start_order, early_key_up};
+ghost use Rattle.std.specs.Prelude.{◌≡◌, [], ◌∷◌, ltb};
 ghost use Rattle.refusal.specs.Rules.{rule, first_holding};
-ghost use Rattle.ensemble_score.specs.Score.{listed};
+ghost use Rattle.refusal.specs.declared.Refusal.TheVariants.{StartOrder, EarlyKeyUp};
 ghost use Rattle.ensemble_rules.specs.Rules.{order_rules, score_rules};
 
-use ensemble_score::{Entry, nth_entry};
+use ensemble_score::Entry;
+use refusal::Refusal;
 
-// 45 and 47 of an entry after one that starts at frame `before`, or 0.
-fn entry_order(before: u32, e: Entry) -> u8
-    ensures { result ≡ first_holding (rule start_order (ltb e.start before) ∷ rule early_key_up (ltb e.key_up e.start) ∷ []) }
+// 45 and 47 of an entry after one that starts at frame `before`.
+fn entry_order(before: u32, e: Entry) -> Result<(), Refusal>
+    ensures { result ≡ first_holding (rule StartOrder (ltb e.start before) ∷ rule EarlyKeyUp (ltb e.key_up e.start) ∷ []) }
 {
     if e.start < before {
-        return refusal::START_ORDER;
+        return Err(Refusal::StartOrder);
     }
     if e.key_up < e.start {
-        return refusal::EARLY_KEY_UP;
+        return Err(Refusal::EarlyKeyUp);
     }
-    0
+    Ok(())
 }
 
-// The first entry's number that is turned back so, or 0.
-fn order_refusal(count: usize, numbers: &[u32; 80]) -> u8
-    requires { count ≤ 16 }
-    ensures { result ≡ first_holding (order_rules 0 (listed count numbers.now)) }
+// The refusal of the first entry that is turned back so.
+fn order_refusal(score: &[Entry]) -> Result<(), Refusal>
+    ensures { result ≡ first_holding (order_rules 0 score.now) }
 {
     let mut before: u32 = 0;
-    let mut i = 0;
-    while i < count {
-        let e = nth_entry(numbers, i);
-        let number = entry_order(before, e);
-        if number != 0 {
-            return number;
-        }
+    for e in score {
+        entry_order(before, *e)?;
         before = e.start;
-        i += 1;
     }
-    0
+    Ok(())
 }
 
-// 46, 45 and 47, or 0, of a score that was taken over.
-pub fn score_refusal(count: usize, numbers: &[u32; 80]) -> u8
-    ensures { result ≡ first_holding (score_rules (listed count numbers.now)) }
+// 46, 45 and 47.
+pub fn score_refusal(score: &[Entry]) -> Result<(), Refusal>
+    ensures { result ≡ first_holding (score_rules score.now) }
 {
-    if 16 < count {
-        return refusal::ENTRY_COUNT;
+    if 16 < score.len() {
+        return Err(Refusal::EntryCount);
     }
-    order_refusal(count, numbers)
+    order_refusal(score)
 }

@@ -1,22 +1,24 @@
 -- Sums value by value, how large they get, and a sum held within 16 bits.
---     plus_longer                                    how many sums there are
---     plus_take, plus_at                             the first n sums, and the one at a place
+--     plus_take                                      the first n sums
 --     plus_join, plus_zeros, added_zeros             sums of two parts, of zeros and values, and of values followed by zeros
---     left_at, all_written                           a buffer written from its front: what is not reached yet, and what it holds in the end
---     within_at, within_more, within_zeros           one number of those within a bound, a larger bound, and zeros
---     added_within, within_set                       the bound of a sum that a value is added to, and a store within it
---     held_parts, held_same, held_zero               a held number by its parts; a number that fits 16 bits is held as it is
+--     all_written                                    what a buffer that is written from its front holds in the end
+--     within_more, within_zeros                      a larger bound, and zeros
+--     grown_fits, grown_stored, grown_within         a sum that a value is added to: it fits, it is the one that is wanted, and it stays within its bound
+--     clamped, held_same, held_zero                  a clamped number is held; a number that fits 16 bits is held as it is
 -- Assumes nothing.
-use Prim.Native.Nat.{ℕ, zero, suc, ◌+◌, ◌-◌, ◌≤◌, ◌<◌, min}
+use Prim.Native.Nat.{ℕ, zero, suc, ◌+◌, ◌^◌, ◌≤◌, ◌<◌, min}
 use mathlib.Core.List.{List, [], ◌∷◌, ◌++◌, append-nil}
 use mathlib.Core.Path.{◌≡◌, refl, sym, ap, ◌∙◌}
 use native.Mathlib.Omega.{arith}
-use lib.IntN.{ℤ, pos, negsuc, nat_abs, ◌+ℤ◌, +ℤ_idl}
+use lib.IntN.{ℤ, pos, negsuc, nat_abs, ◌+ℤ◌, +ℤ_idl, +ℤ_comm}
 use lib.ListN.{length, take, drop, get_or, set, replicate, take-append-drop, length-take, length-drop, drop_of_length-le}
 use lib.Seq.{drop-cons, get_or_at, take_at, take_all, length-take-le}
-use mir.Syntax.{w16}
+use mir.Syntax.{w16, w32}
 use mir.Val.{SFits}
-use Rattle.laws.proofs.Signed.{up, dn, zarith, apart, sum, abs_parts, known}
+use Rattle.laws.proofs.Prefix.{prefix_store}
+use Rattle.laws.proofs.Signed.{zarith, sum, abs_parts, known}
+use Rattle.std.proofs.lemmas.Int.{ints, clamps}
+use Rattle.std.specs.Int.{int_max, int_min}
 use Rattle.ensemble_sums.specs.Sums.{plus, added_to, Within, held_to16}
 
 -- ---- sums value by value
@@ -27,7 +29,7 @@ length_least [] ys = omega arith
 length_least (x ∷ xs) [] = omega arith
 length_least (x ∷ xs) (y ∷ ys) = omega (arith, length_least xs ys)
 
-pub plus_longer : (i : ℕ) (xs ys : List ℤ) → i < length xs → i < length ys → i < length (plus xs ys)
+plus_longer : (i : ℕ) (xs ys : List ℤ) → i < length xs → i < length ys → i < length (plus xs ys)
 plus_longer i xs ys h k = omega (arith, length_least xs ys)
 
 pub plus_take : (n : ℕ) (xs ys : List ℤ) → take n (plus xs ys) ≡ plus (take n xs) (take n ys)
@@ -37,7 +39,7 @@ plus_take (suc n) [] ys = refl
 plus_take (suc n) (x ∷ xs) [] = refl
 plus_take (suc n) (x ∷ xs) (y ∷ ys) = rw (plus_take n xs ys)
 
-pub plus_at : (i : ℕ) (xs ys : List ℤ) → i < length xs → i < length ys → get_or (plus xs ys) i (pos 0) ≡ get_or xs i (pos 0) +ℤ get_or ys i (pos 0)
+plus_at : (i : ℕ) (xs ys : List ℤ) → i < length xs → i < length ys → get_or (plus xs ys) i (pos 0) ≡ get_or xs i (pos 0) +ℤ get_or ys i (pos 0)
 unfolding plus
 plus_at i [] ys h k = absurd (omega arith)
 plus_at i (x ∷ xs) [] h k = absurd (omega arith)
@@ -70,7 +72,7 @@ added_zeros xs ys zs n k e h =
 
 -- ---- a buffer that is written from its front
 
-pub left_at : {A : Type 0} (want d out : List A) (i : ℕ) (dft : A) → i ≤ length want → i < length d → out ≡ take i want ++ drop i d → get_or out i dft ≡ get_or d i dft
+left_at : {A : Type 0} (want d out : List A) (i : ℕ) (dft : A) → i ≤ length want → i < length d → out ≡ take i want ++ drop i d → get_or out i dft ≡ get_or d i dft
 left_at want d out i dft h k e = rw (e, drop-cons d i dft k) (get_or_at (take i want) (get_or d i dft) (drop (suc i) d) dft i (length-take-le i want h))
 
 pub all_written : {A : Type 0} (want d : List A) (i : ℕ) → i ≡ length want → i ≡ length d → take i want ++ drop i d ≡ want
@@ -80,7 +82,7 @@ all_written want d i e h =
 
 -- ---- how large sums get
 
-pub within_at : (b : ℕ) (xs : List ℤ) (i : ℕ) → Within b xs → nat_abs (get_or xs i (pos 0)) ≤ b
+within_at : (b : ℕ) (xs : List ℤ) (i : ℕ) → Within b xs → nat_abs (get_or xs i (pos 0)) ≤ b
 within_at b [] i h = omega arith
 within_at b (x ∷ xs) zero h = h.0
 within_at b (x ∷ xs) (suc i) h = within_at b xs i h.1
@@ -100,30 +102,53 @@ sum_within b c x y h k = omega (zarith, abs_parts x, abs_parts y, abs_parts (x +
 abs_fits : (x : ℤ) → SFits w16 x → nat_abs x ≤ 32768
 abs_fits x f = omega (zarith, known f, abs_parts x)
 
--- a value of 16 bits added to a sum
-pub added_within : (b : ℕ) (x y : ℤ) → SFits w16 x → nat_abs y ≤ b → nat_abs (x +ℤ y) ≤ b + 32768
-added_within b x y f h = omega (arith, sum_within 32768 b x y (abs_fits x f) h)
-
 -- a store
-pub within_set : (b : ℕ) (xs : List ℤ) (i : ℕ) (y : ℤ) → Within b xs → nat_abs y ≤ b → Within b (set xs i y)
+within_set : (b : ℕ) (xs : List ℤ) (i : ℕ) (y : ℤ) → Within b xs → nat_abs y ≤ b → Within b (set xs i y)
 within_set b [] i y h k = tt
 within_set b (x ∷ xs) zero y h k = (k, h.1)
 within_set b (x ∷ xs) (suc i) y h k = (h.0, within_set b xs i y h.1 k)
 
+-- ---- a value added to a sum
+
+-- the first i sums have their values added, and past them stands what stood; one more is added
+module _ (values sums so_far : List ℤ) (i : ℕ) (value : i < length values) (there : i < length sums) (is : so_far ≡ take i (plus values sums) ++ drop i sums) where
+  -- the value, and the sum with it
+  abbrev next : ℤ
+  next = get_or values i (pos 0)
+
+  abbrev pub grown : ℤ
+  grown = get_or so_far i (pos 0) +ℤ next
+
+  longer : i < length (plus values sums)
+  longer = plus_longer i values sums value there
+
+  untouched : get_or so_far i (pos 0) ≡ get_or sums i (pos 0)
+  untouched = left_at (plus values sums) sums so_far i (pos 0) (omega (arith, longer)) there is
+
+  pub grown_fits : SFits w16 next → Within (2 ^ 30) sums → SFits w32 grown
+  grown_fits fits small =
+      let bound : nat_abs (get_or so_far i (pos 0)) ≤ 2 ^ 30 = rw untouched (within_at (2 ^ 30) sums i small) in
+      omega (zarith, known fits, bound, abs_parts (get_or so_far i (pos 0)), sum (get_or so_far i (pos 0)) next)
+
+  pub grown_stored : set so_far i grown ≡ take (i + 1) (plus values sums) ++ drop (i + 1) sums
+  grown_stored =
+      prefix_store (plus values sums) sums so_far i (pos 0) grown longer there is
+      (rw (untouched, plus_at i values sums value there) (+ℤ_comm (get_or sums i (pos 0)) next))
+
+  pub grown_within : SFits w16 next → (b : ℕ) → Within b sums → Within (b + 32768) so_far → Within (b + 32768) (set so_far i grown)
+  grown_within fits b h all = within_set (b + 32768) so_far i grown all (sum_within b 32768 (get_or so_far i (pos 0)) next (rw untouched (within_at b sums i h)) (abs_fits next fits))
+
 -- ---- a sum held within 16 bits
 
-pub record HeldParts (z : ℤ) : Type 0 where
-  pub above : up (held_to16 z) ≡ min (up z) 32767
-  pub below : dn (held_to16 z) ≡ min (dn z) 32768
-  pub one_is_zero : up z - dn z ≡ up z
-
-pub held_parts : (z : ℤ) → HeldParts z
+pub clamped : (x : ℤ) → int_max (negsuc 32767) (int_min x (pos 32767)) ≡ held_to16 x
 unfolding held_to16
-held_parts (pos n) = record { above = refl; below = refl; one_is_zero = apart (pos n) }
-held_parts (negsuc n) = record { above = refl; below = omega arith; one_is_zero = apart (negsuc n) }
+clamped (pos n) = omega (arith, ints, clamps)
+clamped (negsuc n) = omega (arith, ints, clamps)
 
 pub held_same : (x : ℤ) → SFits w16 x → held_to16 x ≡ x
-held_same x f = omega (zarith, known f, held_parts x)
+unfolding held_to16
+held_same (pos n) f = omega (arith, ints)
+held_same (negsuc n) f = omega (arith, ints)
 
 pub held_zero : held_to16 (pos 0) ≡ pos 0
 unfolding held_to16

@@ -10,36 +10,21 @@ pub fn add_values(values: &[i16], n: usize, sums: &mut [i32])
     ensures sums { sums.new ≡ added_to sums.old n values.now }
     ensures small { (b : ℕ) → Within b sums.old → Within (b + 32768) sums.new }
 {
-    let mut i = 0;
-    while i < n {
-        sums[i] = values[i] as i32 + sums[i];
-        i += 1;
+    // not a `zip` with `sums.iter_mut()`: nothing is proved of what such a loop writes
+    let added = &values[..n];
+    for (i, value) in added.iter().enumerate() {
+        sums[i] += *value as i32;
     }
 }
 
-// A sum, held within 16 bits.
-fn held(x: i32) -> i16
-    ensures { result ≡ held_to16 x }
-{
-    if x < -32768 {
-        return -32768;
-    }
-    if 32767 < x {
-        return 32767;
-    }
-    x as i16
-}
-
-// Writes each sum, held, and leaves the sums at 0 for the next stretch.
+// Writes each sum, held within 16 bits, and leaves the sums at 0 for the next stretch.
 pub fn put_held(sums: &mut [i32], out: &mut [i16])
     requires { length sums.old ≡ length out.old }
     ensures out { out.new ≡ map held_to16 sums.old }
     ensures sums { sums.new ≡ replicate (length sums.old) (pos 0) }
 {
-    let mut i = 0;
-    while i < out.len() {
-        out[i] = held(sums[i]);
-        sums[i] = 0;
-        i += 1;
+    for (i, sum) in sums.iter().enumerate() {
+        out[i] = (*sum).clamp(-32768, 32767) as i16;
     }
+    sums.fill(0);
 }

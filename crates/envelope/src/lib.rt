@@ -17,16 +17,14 @@ pub fn level_at_ms(points: &[u8], start: i32, t_ms: u64) -> i32
 {
     let mut level = start;
     let mut left = t_ms;
-    let mut at = 0;
-    while 6 <= points.len() - at {
-        let p = read_point(points, at);
-        let duration = p.duration_ms as u64;
+    for point in points.chunks_exact(6) {
+        let p = read_point(point, 0);
+        let duration = u64::from(p.duration_ms);
         if left < duration {
             return on_the_way(level, p.dest, left as u16, p.duration_ms);
         }
         level = p.dest;
         left -= duration;
-        at += 6;
     }
     level
 }
@@ -36,15 +34,9 @@ pub fn total_duration_ms(points: &[u8]) -> u64
     ensures { result ≡ min (total_duration (envelope_points points.now)) (2 ^ 64 - 1) }
 {
     let mut sum: u64 = 0;
-    let mut at = 0;
-    while 6 <= points.len() - at {
-        let p = read_point(points, at);
-        let duration = p.duration_ms as u64;
-        if 0xffff_ffff_ffff_ffff - sum < duration {
-            return 0xffff_ffff_ffff_ffff;
-        }
-        sum += duration;
-        at += 6;
+    for point in points.chunks_exact(6) {
+        let duration = u64::from(read_point(point, 0).duration_ms);
+        sum = sum.saturating_add(duration);
     }
     sum
 }

@@ -8,11 +8,13 @@ mod sheets;
 mod texts;
 mod waves;
 
-fn main() {
-    codec::run();
-    headers::run();
-    sheets::run();
-    texts::run();
-    waves::run();
-    crossings::run();
+use std::io;
+
+fn main(rt: HostRuntime) -> io::Result<()> {
+    codec::run(&rt)?;
+    headers::run(&rt)?;
+    sheets::run(&rt)?;
+    texts::run(&rt)?;
+    waves::run(&rt)?;
+    crossings::run(&rt)
 }

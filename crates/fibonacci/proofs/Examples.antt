@@ -4,13 +4,14 @@ use mathlib.Core.Path.{◌≡◌, refl}
 use mathlib.Core.List.{[], ◌∷◌}
 use lib.IntN.{pos, negsuc}
 use lib.ListN.{take}
-use Rattle.refusal.specs.Outcome.{refuses}
 use Rattle.field.specs.Signed.{twos_complement, twos_complement_bits}
 use Rattle.field.specs.Wrap.{residue, to_sample}
 use Rattle.fibonacci.specs.Step.{deltas, fib_step}
 use Rattle.fibonacci.specs.Decode.{nibbles, running, fib_samples, fib_channel}
 use Rattle.fibonacci.specs.Pick.{less, argmin, delta_size, nearest, distance, fib_pick}
 use Rattle.fibonacci.specs.Encode.{picks, packed, fib_bytes}
+use Rattle.std.specs.Prelude.{Err}
+use Rattle.refusal.specs.declared.Refusal.TheVariants.{ChannelShort}
 
 -- 00 64 F1: 100, 121, 100
 pub rises : fib_samples (0x00 ∷ 0x64 ∷ 0xF1 ∷ []) ≡ pos 100 ∷ pos 121 ∷ pos 100 ∷ []
@@ -28,7 +29,7 @@ unfolding fib_samples running nibbles fib_step deltas to_sample residue twos_com
 wraps_down = refl
 
 -- a single byte is refused by 12
-pub short : fib_channel (0x00 ∷ []) ≡ refuses 12
+pub short : fib_channel (0x00 ∷ []) ≡ Err ChannelShort
 short = refl
 
 -- 0, 1: 00 00 98

@@ -1,9 +1,9 @@
 -- A channel read: byte 0 is ignored, byte 1 is the first sample, and each nibble after them gives one sample more.
-use Rattle.std.specs.Prelude.{cond, List, [], ◌∷◌, ℕ, ◌/◌, ◌%◌, ltb, ℤ, length, get_or, drop}
-use Rattle.refusal.specs.Numbers.{channel_short}
-use Rattle.refusal.specs.Outcome.{Outcome, gives, refuses}
+use Rattle.std.specs.Prelude.{cond, List, [], ◌∷◌, ℕ, ◌/◌, ◌%◌, ltb, ℤ, length, get_or, drop, Err, Ok}
 use Rattle.field.specs.Signed.{sample_of}
 use Rattle.fibonacci.specs.Step.{fib_step}
+use Rattle.refusal.specs.declared.Refusal.TheVariants.{ChannelShort}
+use Rattle.refusal.specs.Outcome.{Outcome}
 
 -- the nibbles of bytes, the high one of each first
 unfoldable pub nibbles : List ℕ → List ℕ
@@ -21,4 +21,4 @@ fib_samples body = running (sample_of (get_or body 1 0)) (nibbles (drop 2 body))
 
 -- under 2 bytes are no channel, and refused by 12
 abbrev pub fib_channel : List ℕ → Outcome (List ℤ)
-fib_channel body = cond (ltb (length body) 2) (refuses channel_short) (gives (fib_samples body))
+fib_channel body = cond (ltb (length body) 2) (Err ChannelShort) (Ok (fib_samples body))

@@ -5,7 +5,7 @@ ghost use Rattle.refusal.specs.Outcome.{answer, buffer_after};
 ghost use Rattle.fibonacci.specs.Decode.{fib_samples, fib_channel};
 
 use crate::step::fib_step;
-use refusal::Output;
+use refusal::Refusal;
 
 // The first n samples of a channel, at the front of `out`. A byte gives two, so there may be half of one at the end.
 pub fn decode_first(body: &[u8], out: &mut [i8], n: usize)
@@ -18,39 +18,31 @@ pub fn decode_first(body: &[u8], out: &mut [i8], n: usize)
     let mut prev = field::sample_of_byte(body[1]);
     out[0] = prev;
     let pairs = (n - 1) / 2;
-    let mut j = 0;
-    while j < pairs {
-        let at = 2 + j;
-        let b = body[at];
+    for j in 0..pairs {
+        let b = body[2 + j];
         let high = fib_step(prev, b / 16);
         let low = fib_step(high, b % 16);
-        let i = 2 * j + 1;
-        let k = 2 * j + 2;
-        out[i] = high;
-        out[k] = low;
+        out[2 * j + 1] = high;
+        out[2 * j + 2] = low;
         prev = low;
-        j += 1;
     }
     if n % 2 == 0 {
-        let at = 2 + pairs;
-        let b = body[at];
-        let last = n - 1;
-        out[last] = fib_step(prev, b / 16);
+        out[n - 1] = fib_step(prev, body[2 + pairs] / 16);
     }
 }
 
 // All samples of a channel. 12 for under 2 bytes, 20 where they don't fit.
-pub fn fibonacci_decode_channel(body: &[u8], out: &mut [i8]) -> Output
+pub fn fibonacci_decode_channel(body: &[u8], out: &mut [i8]) -> Result<usize, Refusal>
     ensures result { result ≡ answer (fib_channel body.now) (length out.old) }
     ensures buffer { out.new ≡ buffer_after (fib_channel body.now) out.old }
 {
     if body.len() < 2 {
-        return Output::Refused(refusal::CHANNEL_SHORT);
+        return Err(Refusal::ChannelShort);
     }
     let n = 2 * (body.len() - 2) + 1;
     if out.len() < n {
-        return Output::Refused(refusal::BUFFER_SHORT);
+        return Err(Refusal::BufferShort);
     }
     decode_first(body, out, n);
-    Output::Length(n)
+    Ok(n)
 }

@@ -1,12 +1,13 @@
 // A channel written.
 ghost use Rattle.std.specs.Prelude.{◌≡◌, ◌+◌, ◌/◌, ◌≤◌, length};
 ghost use Rattle.laws.specs.Buffer.{written};
-ghost use Rattle.refusal.specs.Outcome.{gives, answer, buffer_after};
+ghost use Rattle.refusal.specs.Outcome.{answer, buffer_after};
+ghost use Rattle.std.specs.Prelude.{Ok};
 ghost use Rattle.fibonacci.specs.Encode.{fib_bytes};
 ghost use Rattle.fibonacci.specs.Helpers.{NearestTable, packed_pair};
 
 use crate::pick::{NEAREST, fib_pick_nibble};
-use refusal::Output;
+use refusal::Refusal;
 
 // Two nibbles in a byte, and the sample that the decoder has after them.
 #[derive(Clone, Copy)]
@@ -37,39 +38,32 @@ fn encode_samples(table: &[u8], samples: &[i8], out: &mut [u8])
     out[0] = 0;
     out[1] = field::byte_of_sample(prev);
     let pairs = (n - 1) / 2;
-    let mut j = 0;
-    while j < pairs {
-        let first = 2 * j + 1;
-        let second = 2 * j + 2;
-        let p = pack_pair(table, prev, samples[first], samples[second]);
-        let at = 2 + j;
-        out[at] = p.byte;
+    for j in 0..pairs {
+        let p = pack_pair(table, prev, samples[2 * j + 1], samples[2 * j + 2]);
+        out[2 + j] = p.byte;
         prev = p.last;
-        j += 1;
     }
     if n % 2 == 0 {
-        let last = n - 1;
-        let at = 2 + pairs;
-        let picked = fib_pick_nibble(table, prev, samples[last]);
-        out[at] = picked.nibble * 16 + 8;
+        let picked = fib_pick_nibble(table, prev, samples[n - 1]);
+        out[2 + pairs] = picked.nibble * 16 + 8;
     }
 }
 
 // A channel's samples as bytes; 20 where they don't fit.
-pub fn fibonacci_encode_channel(samples: &[i8], out: &mut [u8]) -> Output
-    ensures result { result ≡ answer (gives (fib_bytes samples.now)) (length out.old) }
-    ensures buffer { out.new ≡ buffer_after (gives (fib_bytes samples.now)) out.old }
+pub fn fibonacci_encode_channel(samples: &[i8], out: &mut [u8]) -> Result<usize, Refusal>
+    ensures result { result ≡ answer (Ok (fib_bytes samples.now)) (length out.old) }
+    ensures buffer { out.new ≡ buffer_after (Ok (fib_bytes samples.now)) out.old }
 {
     let n = samples.len();
     let length = 2 + n / 2;
     if out.len() < length {
-        return Output::Refused(refusal::BUFFER_SHORT);
+        return Err(Refusal::BufferShort);
     }
     if n == 0 {
         out[0] = 0;
         out[1] = 0;
-        return Output::Length(length);
+        return Ok(length);
     }
     encode_samples(&NEAREST, samples, out);
-    Output::Length(length)
+    Ok(length)
 }

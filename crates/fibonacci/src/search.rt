@@ -1,11 +1,10 @@
 // The nearest of all sixteen nibbles. Each has a key, and the least key alone tells which it is: a minimum without a branch, for which a
 // processor can look at many keys at once.
-ghost use Rattle.std.specs.Prelude.{◌≡◌, ◌+◌, ◌*◌, ◌<◌, min, nat_abs, ◌+ℤ◌, ◌-ℤ◌};
+ghost use Rattle.std.specs.Prelude.{◌≡◌, ◌+◌, ◌*◌, ◌<◌, nat_abs, ◌+ℤ◌, ◌-ℤ◌};
 ghost use Rattle.field.specs.Wrap.{to_sample};
 ghost use Rattle.fibonacci.specs.Pick.{fib_pick};
 ghost use Rattle.fibonacci.specs.Helpers.{by_size, DeltasBySize, key_at, least_of};
 
-use crate::step::difference;
 use field::sample_sum;
 
 // The deltas by their size, the smallest first, and of two as large that of the lower nibble.
@@ -22,33 +21,12 @@ fn nibble_by_size(i: u8) -> u8
     7 - i / 2
 }
 
-// How far a is from b.
-fn apart(a: i8, b: i8) -> u16
-    ensures { result ≡ nat_abs (a -ℤ b) }
-{
-    let d = difference(a, b);
-    if d < 0 {
-        return (0 - d) as u16;
-    }
-    d as u16
-}
-
 // What the nibble at a place of that order is judged by: how far from the target it leads, and below that, for those as near, its place.
 fn key(prev: i8, target: i8, delta: i8, place: u16) -> u16
     requires { place < 16 }
     ensures { result ≡ nat_abs (to_sample (prev +ℤ delta) -ℤ target) * 16 + place }
 {
-    apart(sample_sum(prev, delta), target) * 16 + place
-}
-
-// The lesser of two keys.
-fn lesser(a: u16, b: u16) -> u16
-    ensures { result ≡ min a b }
-{
-    if b < a {
-        return b;
-    }
-    a
+    sample_sum(prev, delta).abs_diff(target) as u16 * 16 + place
 }
 
 // The least of the sixteen keys.
@@ -56,11 +34,9 @@ fn least_key(deltas: &[i8], prev: i8, target: i8) -> u16
     requires { DeltasBySize deltas.now }
     ensures { result ≡ least_of (key_at prev target) 16 }
 {
-    let mut least = 4096;
-    let mut i = 0;
-    while i < 16 {
-        least = lesser(least, key(prev, target, deltas[i], i as u16));
-        i += 1;
+    let mut least: u16 = 4096;
+    for (i, delta) in deltas.iter().enumerate() {
+        least = least.min(key(prev, target, *delta, i as u16));
     }
     least
 }

@@ -2,7 +2,8 @@
 --     bytes_number, number_back     what was written reads back, at any width, whatever follows it
 --     number_bytes                  what was read writes back, of bytes
 -- Assumes nothing.
-use Rattle.std.proofs.Common.{◌≡◌, ℕ, zero, suc, ◌+◌, ◌*◌, ◌/◌, ◌%◌, ◌^◌, ◌<◌, ◌≤◌, List, [], ◌∷◌, ◌++◌, length, get_or, take, drop, sym, refl, ap, ◌∙◌, le_of_suc-le-suc, not-suc-le-zero, add-zero, mul-le-mul_right, mod-lt, mod-eq_of_lt, mul_assoc, mul_comm, add-mul, pow-suc, div-add-mod', mul_right_comm, arith, get_or-drop, get_or-take}
+use Rattle.std.proofs.Common.{◌≡◌, ℕ, zero, suc, ◌+◌, ◌*◌, ◌/◌, ◌%◌, ◌^◌, ◌<◌, ◌≤◌, List, [], ◌∷◌, ◌++◌, length, get_or, take, drop, sym, refl, ap, ◌∙◌, le_of_suc-le-suc, not-suc-le-zero, add-zero, mul-le-mul_right, mod-lt, mod-eq_of_lt, mul_assoc, mul_comm, add-mul, pow-suc, div-add-mod', mul_right_comm, arith, get_or-drop, get_or-take, div-one}
+use Rattle.std.specs.Int.{bytes_high_first}
 use lib.ListN.{get_or-append}
 use native.Mathlib.Nat.{mod-one, one-le-pow}
 use native.Mathlib.Nat.{mul-add-mod_self_left, mul-add-mod_self_right, mul-add-div_right, div-eq_of_lt}
@@ -12,6 +13,11 @@ use Rattle.field.specs.BigEndian.{Bytes, big_endian, big_endian_bytes}
 pub number16_at : (s : List ℕ) (at : ℕ) → big_endian 2 (drop at s) ≡ get_or s at 0 * 256 + get_or s (at + 1) 0
 unfolding big_endian
 number16_at s at = simp (get_or-drop, add-zero) (omega arith)
+
+-- four bytes at a place
+pub number32_at : (s : List ℕ) (at : ℕ) → big_endian 4 (drop at s) ≡ ((get_or s at 0 * 256 + get_or s (at + 1) 0) * 256 + get_or s (at + 2) 0) * 256 + get_or s (at + 3) 0
+unfolding big_endian
+number32_at s at = simp (get_or-drop, add-zero) (omega arith)
 
 -- four bytes are two and two
 pub number32_halves : (l : List ℕ) → big_endian 4 l ≡ big_endian 2 l * 65536 + big_endian 2 (drop 2 l)
@@ -63,6 +69,13 @@ split v m h =
   where
     lit : (k : ℕ) → 0 < 256
     lit k = omega arith
+
+-- what `to_be_bytes` gives, at any width
+pub library_bytes : (n v : ℕ) → bytes_high_first n v ≡ big_endian_bytes n v
+unfolding big_endian_bytes
+library_bytes zero v = refl
+library_bytes (suc zero) v = rw div-one
+library_bytes (suc (suc n)) v = ap (λ (l : List ℕ). v / 256 ^ suc n % 256 ∷ l) (library_bytes (suc n) v)
 
 -- what n bytes hold of a number
 pub bytes_mod : (n v : ℕ) → big_endian n (big_endian_bytes n v) ≡ v % 256 ^ n

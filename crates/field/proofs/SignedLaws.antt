@@ -1,12 +1,10 @@
 -- `twos_complement` and `twos_complement_bits` are the machine's own reading and writing of a signed number, at each width, so each undoes the other.
 -- Assumes nothing.
-use Rattle.std.proofs.Common.{◌≡◌, ℕ, zero, suc, ◌+◌, ◌-◌, ◌^◌, ◌<◌, ◌≤◌, Bool, true, false, cond, T, ltb, List, [], ◌∷◌, map, take, drop, ℤ, pos, negsuc, nat_abs, refl, arith, get_or-drop, to_z-of_z, w8, w16, w32, w64, Fits, SFits, to_z, of_z, ltb-false, ltb-true}
-use lib.Signed.{mag, lt_z, non_neg}
+use Rattle.std.proofs.Common.{◌≡◌, ℕ, zero, suc, ◌+◌, ◌-◌, ◌^◌, ◌<◌, Bool, true, false, cond, ltb, List, [], ◌∷◌, map, take, drop, ℤ, pos, negsuc, refl, get_or-drop, to_z-of_z, w8, w16, w32, w64, Fits, SFits, to_z, of_z, ltb-false, ltb-true}
 use mir.Syntax.{Width, w128}
-use mir.Val.{bits, hbits, sel}
+use mir.Val.{hbits, sel}
 use mir.Facts.{of_z-to_z}
-use mir.ValLaws.{half_full}
-use Rattle.laws.proofs.Signed.{zarith, known, abs_parts, not_neg, non_neg_of}
+use Rattle.laws.proofs.Signed.{zarith}
 use Rattle.field.specs.Signed.{twos_complement, twos_complement_bits, sample_of, byte_of, Samples}
 
 sel_cond : (t : Bool) (x y : ℤ) → sel t x y ≡ cond t x y
@@ -72,61 +70,3 @@ samples_drop n l h i = rw get_or-drop (h (n + i))
 
 pub byte_sample : (b : ℕ) → b < 256 → byte_of (sample_of b) ≡ b
 byte_sample b h = bits_signed w8 b (record { fits = h })
-
--- ---- by the sign, as the code goes
-
--- a negative number's bits, by those of its complement; h is half of the values
-negative_bits : (h : ℕ) (s : ℤ) → lt_z s (pos 0) ≡ true → h + h - 1 - mag s ≡ twos_complement_bits h s
-unfolding twos_complement_bits
-negative_bits h (pos n) e = absurd (omega (zarith, e))
-negative_bits h (negsuc n) e = omega zarith
-
-other_bits : (h : ℕ) (s : ℤ) → lt_z s (pos 0) ≡ false → nat_abs s ≡ twos_complement_bits h s
-unfolding twos_complement_bits
-other_bits h (pos n) e = refl
-other_bits h (negsuc n) e = absurd (omega (zarith, e))
-
-halves : (w : Width) → 2 ^ hbits w + 2 ^ hbits w ≡ 2 ^ bits w
-halves w8 = refl
-halves w16 = refl
-halves w32 = refl
-halves w64 = refl
-halves w128 = refl
-
-module _ (w : Width) (s : ℤ) (f : SFits w s) where
-  -- `!s`, of a negative s: cast to an unsigned number it loses nothing, and taken from the largest number it gives the bits of s
-  pub record Complement : Type 0 where
-    pub casts : T (non_neg (to_z w (2 ^ bits w - 1 - of_z w s))) × Fits w (nat_abs (to_z w (2 ^ bits w - 1 - of_z w s)))
-    pub below : nat_abs (to_z w (2 ^ bits w - 1 - of_z w s)) ≤ 2 ^ bits w - 1
-    pub is : 2 ^ bits w - 1 - nat_abs (to_z w (2 ^ bits w - 1 - of_z w s)) ≡ twos_complement_bits (2 ^ hbits w) s
-
-  pub complement : lt_z (to_z w (of_z w s)) (pos 0) ≡ true → Complement
-  complement t =
-      let neg : lt_z s (pos 0) ≡ true = rw (to_z-of_z f) at t in
-      let flipped : to_z w (2 ^ bits w - 1 - of_z w s) ≡ pos (mag s) = not_neg w s f neg in
-      let small : mag s < 2 ^ bits w = half_full w f.sfits in
-      record {
-        casts = rw flipped (tt, record { fits = small });
-        below = rw flipped (omega arith);
-        is = rw (flipped, ← halves w) (negative_bits (2 ^ hbits w) s neg);
-      }
-
-  -- of another, a cast gives the bits
-  pub record Plain : Type 0 where
-    pub casts : T (non_neg (to_z w (of_z w s))) × Fits w (nat_abs (to_z w (of_z w s)))
-    pub is : nat_abs (to_z w (of_z w s)) ≡ twos_complement_bits (2 ^ hbits w) s
-
-  pub plain : lt_z (to_z w (of_z w s)) (pos 0) ≡ false → Plain
-  plain t =
-      let other : lt_z s (pos 0) ≡ false = rw (to_z-of_z f) at t in
-      let small : nat_abs s < 2 ^ bits w = half_full w (omega (zarith, known f, abs_parts s)) in
-      record {
-        casts = rw (to_z-of_z f) (non_neg_of s (omega (zarith, known f)), record { fits = small });
-        is = rw (to_z-of_z f) (other_bits (2 ^ hbits w) s other);
-      }
-
--- the other way: from half of the values on, the complement's complement has the bits that came in
-pub read_complement : (w : Width) (b : ℕ) → b ≤ 2 ^ bits w - 1 → to_z w (2 ^ bits w - 1 - (2 ^ bits w - 1 - b)) ≡ twos_complement (2 ^ hbits w) b
-read_complement w b h =
-    let same : 2 ^ bits w - 1 - (2 ^ bits w - 1 - b) ≡ b = omega arith in
-    rw same (read_is w b)

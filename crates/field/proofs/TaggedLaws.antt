@@ -1,6 +1,7 @@
 -- The laws of `parts` and `tagged`: their parts one by one. No proof elsewhere unfolds them.
 -- Assumes nothing.
-use Rattle.std.proofs.Common.{◌≡◌, ℕ, suc, ◌+◌, ◌-◌, ◌<◌, ◌≤◌, List, [], ◌∷◌, ◌++◌, length, take, drop, ap, ◌∙◌, arith, length-drop, drop-drop, le-ltb, lt-ltb}
+use Rattle.std.proofs.Common.{◌≡◌, ℕ, suc, ◌+◌, ◌-◌, ◌<◌, ◌≤◌, List, [], ◌∷◌, ◌++◌, length, take, drop, ap, ◌∙◌, arith, length-append, length-drop, drop-drop, le-ltb, lt-ltb}
+use Rattle.std.proofs.lemmas.List.{take_at, drop_at}
 use Rattle.field.specs.Tagged.{first_part, parts, first_tagged, tagged}
 use Rattle.laws.specs.Walk.{last, each}
 use Rattle.laws.proofs.WalkLaws.{walk_more, walk_last}
@@ -14,6 +15,11 @@ module _ (n : ℕ) (pos : 0 < n) where
   parts_more l h =
       let e : suc (n - 1) ≡ n = omega arith in
       walk_more (first_part n) no_part l (take n l) (n - 1) (rw (le-ltb (length l) n h)) ∙ rw e
+
+  -- the same of a part and what follows it
+  pub parts_front : (part rest l : List ℕ) → l ≡ part ++ rest → length part ≡ n → parts n l ≡ part ∷ parts n rest
+  parts_front part rest l e h =
+      rw (e, parts_more (part ++ rest) (omega (arith, length-append part rest)), take_at part rest n h, drop_at part rest n h)
 
   pub parts_end : (l : List ℕ) → length l < n → parts n l ≡ []
   unfolding parts
@@ -29,7 +35,12 @@ module _ (t n : ℕ) (pos : 0 < n) where
       let e : suc (n - 1) ≡ n = omega arith in
       ap (each (λ x. x)) (walk_more (first_tagged t n) nil l (t ∷ take n l) (n - 1) (rw (le-ltb (length l) n h))) ∙ rw e
 
-  tagged_end : (l : List ℕ) → length l < n → tagged t n l ≡ []
+  -- the same of a part and what follows it
+  pub tagged_front : (part rest l : List ℕ) → l ≡ part ++ rest → length part ≡ n → tagged t n l ≡ (t ∷ part) ++ tagged t n rest
+  tagged_front part rest l e h =
+      rw (e, tagged_more (part ++ rest) (omega (arith, length-append part rest)), take_at part rest n h, drop_at part rest n h)
+
+  pub tagged_end : (l : List ℕ) → length l < n → tagged t n l ≡ []
   unfolding tagged
   tagged_end l h = ap (each (λ x. x)) (walk_last (first_tagged t n) nil l [] (rw (lt-ltb (length l) n h)))
 

@@ -1,10 +1,12 @@
 -- Laws of a number brought back into -128..127. No other file of laws looks into `residue` or `to_sample`.
---     residue_sum, residue_difference     by the bytes of two samples
+--     residue_sum                         of the bytes of two samples
+--     library_wraps                       what `wrapping_add` and `wrapping_sub` leave
 --     sample_fits, sample_kept            what is brought back is a sample, and a sample is kept
 --     sum_back, difference_back           a difference added to what it was taken from, and the other way round
 --     sample_turn, sample_below, sample_above, sample_apart     256 apart, past either end, and less than 256 apart
 -- Assumes nothing.
 use Rattle.std.proofs.Common.{◌≡◌, ℕ, suc, ◌+◌, ◌-◌, ◌%◌, ◌<◌, Bool, true, false, cond, ltb, ℤ, pos, negsuc, ◌+ℤ◌, ◌-ℤ◌, neg_ℤ, ◌≤ℤ◌, ◌<ℤ◌, sym, refl, ap, ◌∙◌, arith, w8, SFits, ltb-false, ltb-true}
+use Rattle.std.specs.Int.{int_wrap}
 use lib.IntN.{sub_ℕ}
 use Rattle.laws.proofs.Signed.{zarith, sum, diff}
 use Rattle.field.specs.Signed.{twos_complement_bits, sample_of, byte_of}
@@ -46,13 +48,6 @@ module _ (a b : ℤ) (f : SFits w8 a) (g : SFits w8 b) where
   pub residue_sum : (byte_of a + byte_of b) % 256 ≡ residue (a +ℤ b)
   residue_sum = rw (residue_add a b, residue_kept a f, residue_kept b g)
 
-  -- what makes the first byte with the second
-  pub residue_difference : (r : ℕ) → r < 256 → (r + byte_of b) % 256 ≡ byte_of a → r ≡ residue (a -ℤ b)
-  residue_difference r small e =
-      let whole : (a -ℤ b) +ℤ b ≡ a = omega (zarith, sum (a -ℤ b) b, diff a b) in
-      let same = sym (residue_add (a -ℤ b) b) ∙ ap residue whole in
-      omega (arith, same, residue_below (a -ℤ b), residue_kept a f, residue_kept b g)
-
 -- numbers that are 256 apart have the same
 residue_turn : (z : ℤ) → residue (z +ℤ pos 256) ≡ residue z
 unfolding residue
@@ -64,6 +59,12 @@ residue_turn (negsuc n) = omega (arith, residue_less 256 (suc n))
 pub sample_fits : (z : ℤ) → SFits w8 (to_sample z)
 unfolding to_sample
 sample_fits z = field.sample_fits (residue z)
+
+-- what the library's sums and differences that wrap leave
+pub library_wraps : (z : ℤ) → int_wrap w8 z ≡ to_sample z
+unfolding int_wrap to_sample residue
+library_wraps (pos n) = field.read_is w8 _
+library_wraps (negsuc n) = field.read_is w8 _
 
 -- what is within the range is kept
 pub sample_kept : (z : ℤ) → SFits w8 z → to_sample z ≡ z

@@ -10,21 +10,19 @@ pub fn put_byte(d: &mut [u8], at: usize, b: u8) -> usize
 {
     if at < d.len() {
         d[at] = b;
-        return at + 1;
     }
     at + 1
 }
 
-// All of `src`; the place past it.
+// All of `src`; the place past it. Byte by byte, as the compiler copies this in blocks: a `copy_from_slice` of the part that fits
+// took twice the time at 4,096 bytes, and four times at 5.
 pub fn put_all(src: &[u8], d: &mut [u8], at: usize) -> usize
     requires { at + length src.now < 2 ^ 63 }
     ensures { Put d.old at src.now d.new result }
 {
-    let mut i = 0;
     let mut o = at;
-    while i < src.len() {
-        o = put_byte(d, o, src[i]);
-        i += 1;
+    for b in src {
+        o = put_byte(d, o, *b);
     }
     o
 }
@@ -43,12 +41,9 @@ pub fn put_tagged(src: &[u8], tag: u8, n: usize, d: &mut [u8], at: usize) -> usi
     requires { (0 < n) × (at + length (tagged tag n src.now) < 2 ^ 63) }
     ensures { Put d.old at (tagged tag n src.now) d.new result }
 {
-    let mut i = 0;
     let mut o = at;
-    while n <= src.len() - i {
-        let e = i + n;
-        o = put_record(&src[i..e], tag, d, o);
-        i = e;
+    for part in src.chunks_exact(n) {
+        o = put_record(part, tag, d, o);
     }
     o
 }

@@ -10,20 +10,21 @@ use lib.Dec.{eqb, ltb, ltb→lt, eqb→eq}
 use lib.ListN.{length, get_or, take, drop, set}
 use mathlib.Core.Bool.{Bool, true, false, cond, not}
 use mathlib.Core.List.{List, [], ◌∷◌}
-use mathlib.Core.Option.{some}
 use mathlib.Core.Path.{◌≡◌, refl}
 use native.Mathlib.Omega.{arith}
 use Rattle.laws.proofs.Cases.{impossible, neither}
 use Rattle.laws.proofs.Table.{below}
-use Rattle.refusal.specs.Numbers.{chunk_past_form, chunk_twice, chunk_length, channel_value}
 use Rattle.field.specs.BigEndian.{big_endian}
 use Rattle.chunk.specs.Chunk.{Item, chunk, bad, items_from}
 use Rattle.chunk.specs.ForCode.{step_at}
-use Rattle.chunk.specs.declared.ChunkStep.TheVariants.{Refused}
 use Rattle.chunk.proofs.ChunkLaws.{Whole, step_end, step_past, step_whole}
 use Rattle.form.specs.Kind.{names, place_in, kind_of, least, unit, single, length_wrong}
-use Rattle.form.specs.FirstBad.{channel_wrong, chunk_wrong, or_else, bad_from, none_came, first_bad}
+use Rattle.form.specs.FirstBad.{channel_wrong, chunk_wrong, bad_from, none_came, first_bad}
 use Rattle.form.specs.Find.{all_of, first_of}
+use Rattle.refusal.specs.declared.Refusal.TheVariants.{ChunkPastForm, ChunkTwice, ChunkLength, ChannelValue}
+use Rattle.std.specs.Prelude.{Err, Some, Ok, ⊤}
+use Rattle.refusal.specs.Outcome.{Outcome, if_accepted}
+use Rattle.refusal.specs.declared.Refusal.{Refusal}
 
 -- ---- the kinds
 
@@ -61,23 +62,19 @@ module _ (kind n : ℕ) where
 abbrev pub Right : ℕ → List ℕ → Type 0
 Right id b = (length_wrong (kind_of id) (length b) ≡ false) × (channel_wrong (kind_of id) b ≡ false)
 
-or_left : (n m : ℕ) → (n ≡ 0 → ⊥) → or_else n m ≡ n
-or_left zero m h = absurd (h refl)
-or_left (suc n) m h = refl
+both_accepted : (p q : Outcome ⊤) → if_accepted p q ≡ Ok tt → (p ≡ Ok tt) × (q ≡ Ok tt)
+both_accepted (Ok u) q e = (refl, e)
+both_accepted (Err r) q e = impossible cc
 
-or_zero : (n m : ℕ) → or_else n m ≡ 0 → (n ≡ 0) × (m ≡ 0)
-or_zero zero m e = (refl, e)
-or_zero (suc n) m e = absurd (omega arith)
-
-pub wrong_none : (came : Bool) (id : ℕ) (b : List ℕ) → chunk_wrong came (kind_of id) b ≡ 0 → (came ≡ false) × Right id b
+pub wrong_none : (came : Bool) (id : ℕ) (b : List ℕ) → chunk_wrong came (kind_of id) b ≡ Ok tt → (came ≡ false) × Right id b
 unfolding chunk_wrong
 wrong_none came id b = go came (length_wrong (kind_of id) (length b)) (channel_wrong (kind_of id) b) refl refl refl
   where
     go : (u v w : Bool) → came ≡ u → length_wrong (kind_of id) (length b) ≡ v → channel_wrong (kind_of id) b ≡ w
-        → cond u chunk_twice (cond v chunk_length (cond w channel_value 0)) ≡ 0 → (came ≡ false) × Right id b
-    go true v w p q r e = absurd (omega arith)
-    go false true w p q r e = absurd (omega arith)
-    go false false true p q r e = absurd (omega arith)
+        → ◌≡◌ {A = Outcome ⊤} (cond u (Err ChunkTwice) (cond v (Err ChunkLength) (cond w (Err ChannelValue) (Ok tt)))) (Ok tt) → (came ≡ false) × Right id b
+    go true v w p q r e = impossible cc
+    go false true w p q r e = impossible cc
+    go false false true p q r e = impossible cc
     go false false false p q r e = (p, (q, r))
 
 -- ---- one answer of the walk
@@ -92,10 +89,10 @@ module _ (id : ℕ) {f : List ℕ} {at i start n next : ℕ} (w : Whole f at i s
   all_miss h = rw (w.items, ne_eqb i id h)
 
 -- the walk has one refusal
-pub refused_number : (f : List ℕ) (at r : ℕ) → step_at f at ≡ Refused r → r ≡ chunk_past_form
+pub refused_number : (f : List ℕ) (at : ℕ) (r : Refusal) → step_at f at ≡ Err r → r ≡ ChunkPastForm
 refused_number f at r s = go (ltb (length f - at) 8) (ltb (length f - at - 8) (big_endian 4 (drop (at + 4) f))) refl refl
   where
-    go : (u v : Bool) → ltb (length f - at) 8 ≡ u → ltb (length f - at - 8) (big_endian 4 (drop (at + 4) f)) ≡ v → r ≡ chunk_past_form
+    go : (u v : Bool) → ltb (length f - at) 8 ≡ u → ltb (length f - at - 8) (big_endian 4 (drop (at + 4) f)) ≡ v → r ≡ ChunkPastForm
     go true v p q = impossible (cc (step_end f at (ltb-true (length f - at) 8 p)))
     go false true p q =
         let z = step_past f at (ltb-false (length f - at) 8 p) (ltb-true (length f - at - 8) (big_endian 4 (drop (at + 4) f)) q) in
@@ -108,14 +105,14 @@ abbrev pub came_then : List Bool → ℕ → List Bool
 came_then came id = set came (kind_of id) (get_or single (kind_of id) false)
 
 module _ (came : List Bool) {f : List ℕ} {at i start n next : ℕ} (w : Whole f at i start n next) where
-  abbrev pub wrong_here : ℕ
+  abbrev pub wrong_here : Outcome ⊤
   wrong_here = chunk_wrong (get_or came (kind_of i) false) (kind_of i) (take n (drop start f))
 
-  pub bad_here : (wrong_here ≡ 0 → ⊥) → bad_from came (items_from f at) ≡ wrong_here
+  pub bad_here : (refusal : Refusal) → wrong_here ≡ Err refusal → bad_from came (items_from f at) ≡ Err refusal
   unfolding bad_from
-  bad_here h = rw w.items (or_left wrong_here _ h)
+  bad_here refusal e = rw (w.items, e)
 
-  pub bad_later : wrong_here ≡ 0 → bad_from came (items_from f at) ≡ bad_from (came_then came i) (items_from f next)
+  pub bad_later : wrong_here ≡ Ok tt → bad_from came (items_from f at) ≡ bad_from (came_then came i) (items_from f next)
   unfolding bad_from
   bad_later e = rw (w.items, e)
 
@@ -123,30 +120,30 @@ module _ (came : List Bool) {f : List ℕ} {at i start n next : ℕ} (w : Whole 
 
 module _ (came : List Bool) where
   -- nothing is wrong with the first, and after it there is no bad one
-  pub sound_step : (id : ℕ) (b : List ℕ) (items : List Item) → bad_from came (chunk id b ∷ items) ≡ 0
-      → (chunk_wrong (get_or came (kind_of id) false) (kind_of id) b ≡ 0) × (bad_from (came_then came id) items ≡ 0)
+  pub sound_step : (id : ℕ) (b : List ℕ) (items : List Item) → bad_from came (chunk id b ∷ items) ≡ Ok tt
+      → (chunk_wrong (get_or came (kind_of id) false) (kind_of id) b ≡ Ok tt) × (bad_from (came_then came id) items ≡ Ok tt)
   unfolding bad_from
-  sound_step id b items e = or_zero (chunk_wrong (get_or came (kind_of id) false) (kind_of id) b) (bad_from (came_then came id) items) e
+  sound_step id b items e = both_accepted (chunk_wrong (get_or came (kind_of id) false) (kind_of id) b) (bad_from (came_then came id) items) e
 
   -- so the first is right
-  pub right_first : (id : ℕ) (b : List ℕ) (items : List Item) → bad_from came (chunk id b ∷ items) ≡ 0 → Right id b
+  pub right_first : (id : ℕ) (b : List ℕ) (items : List Item) → bad_from came (chunk id b ∷ items) ≡ Ok tt → Right id b
   right_first id b items e = (wrong_none (get_or came (kind_of id) false) id b (sound_step id b items e).0).1
 
 -- the first of a name is right, whatever came before
-pub first_from : (came : List Bool) (id : ℕ) (items : List Item) → bad_from came items ≡ 0 → (b : List ℕ) → first_of id items ≡ some b → Right id b
+pub first_from : (came : List Bool) (id : ℕ) (items : List Item) → bad_from came items ≡ Ok tt → (b : List ℕ) → first_of id items ≡ Some b → Right id b
 unfolding first_of
 first_from came id [] e b h = impossible cc
-first_from came id (bad number ∷ items) e b h = impossible cc
+first_from came id (bad refusal ∷ items) e b h = impossible cc
 first_from came id (chunk i d ∷ items) e b h =
     go (eqb i id) refl (right_first came i d items e) h (first_from (came_then came i) id items (sound_step came i d items e).1 b)
   where
-    go : (t : Bool) → eqb i id ≡ t → Right i d → cond t (some d) (first_of id items) ≡ some b → (first_of id items ≡ some b → Right id b) → Right id b
+    go : (t : Bool) → eqb i id ≡ t → Right i d → cond t (Some d) (first_of id items) ≡ Some b → (first_of id items ≡ Some b → Right id b) → Right id b
     go true p r k later =
         let same : d ≡ b = cc in
         rw (← same, ← eqb-true i id p) r
     go false p r k later = later k
 
 -- the same of a whole FORM
-module _ (id : ℕ) (items : List Item) (e : first_bad items ≡ 0) where
-  pub first_sound : (b : List ℕ) → first_of id items ≡ some b → Right id b
+module _ (id : ℕ) (items : List Item) (e : first_bad items ≡ Ok tt) where
+  pub first_sound : (b : List ℕ) → first_of id items ≡ Some b → Right id b
   first_sound = first_from none_came id items e

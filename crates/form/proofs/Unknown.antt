@@ -11,9 +11,11 @@ use native.Mathlib.Nat.{mod-one}
 use Rattle.chunk.specs.Chunk.{Item, chunk, bad}
 use Rattle.form.proofs.FormLaws.{came_then}
 use Rattle.form.specs.Kind.{kind_of, single, length_wrong}
-use Rattle.form.specs.FirstBad.{channel_wrong, chunk_wrong, or_else, bad_from}
+use Rattle.form.specs.FirstBad.{channel_wrong, chunk_wrong, bad_from}
+use Rattle.std.specs.Prelude.{Ok}
+use Rattle.refusal.specs.Outcome.{if_accepted}
 
-unknown_right : (b : List ℕ) → chunk_wrong false 0 b ≡ 0
+unknown_right : (b : List ℕ) → chunk_wrong false 0 b ≡ Ok tt
 unfolding chunk_wrong length_wrong channel_wrong
 unknown_right b = rw (le-ltb (length b) 0 zero-le, mod-one)
 
@@ -27,6 +29,6 @@ pub bad_same : (came : List Bool) (i : ℕ) (b : List ℕ) (xs ys : List Item) �
     → bad_from came (xs ++ chunk i b ∷ ys) ≡ bad_from came (xs ++ ys)
 unfolding bad_from
 bad_same came i b [] ys k h = rw (k, h, unknown_right b) (ap (λ (s : List Bool). bad_from s ys) (ap (set came 0) (sym h) ∙ set-get_or came 0 false))
-bad_same came i b (bad number ∷ xs) ys k h = refl
+bad_same came i b (bad refusal ∷ xs) ys k h = refl
 bad_same came i b (chunk j d ∷ xs) ys k h =
-    ap (or_else (chunk_wrong (get_or came (kind_of j) false) (kind_of j) d)) (bad_same (came_then came j) i b xs ys k (unmarked came (kind_of j) h))
+    ap (if_accepted (chunk_wrong (get_or came (kind_of j) false) (kind_of j) d)) (bad_same (came_then came j) i b xs ys k (unmarked came (kind_of j) h))

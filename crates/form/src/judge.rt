@@ -5,8 +5,9 @@ ghost use Rattle.form.specs.Kind.{kind_of, length_wrong};
 ghost use Rattle.form.specs.FirstBad.{channel_wrong, chunk_wrong, first_bad};
 
 use crate::names::{ATAK, BODY, CHAN, FADE, PAN, RLSE, SEQN, VHDR};
-use chunk::{ChunkStep, chunk_at};
+use chunk::chunk_at;
 use field::read32;
+use refusal::Refusal;
 use small_chunks::is_channel;
 
 // A chunk's kind: its place in the list of the names that have rules, from 1; 0 for another name.
@@ -54,47 +55,35 @@ fn is_channel_wrong(body: &[u8], kind: usize) -> bool
     !is_channel(read32(body, 0))
 }
 
-// The refusal of one chunk, the lowest that applies, or 0; `came` says that one of its kind came before it.
-fn chunk_wrong(body: &[u8], came: bool, kind: usize) -> u8
+// The refusal of one chunk, the lowest that applies; `came` says that one of its kind came before it.
+fn chunk_wrong(body: &[u8], came: bool, kind: usize) -> Result<(), Refusal>
     requires { kind < 9 }
     ensures { result ≡ chunk_wrong came kind body.now }
 {
     if came {
-        return refusal::CHUNK_TWICE;
+        return Err(Refusal::ChunkTwice);
     }
     if is_length_wrong(kind, body.len()) {
-        return refusal::CHUNK_LENGTH;
+        return Err(Refusal::ChunkLength);
     }
     if is_channel_wrong(body, kind) {
-        return refusal::CHANNEL_VALUE;
+        return Err(Refusal::ChannelValue);
     }
-    0
+    Ok(())
 }
 
-// The number of the first bad chunk, or 0 where there is none.
-pub fn first_bad(form: &[u8]) -> u8
+// The refusal of the first bad chunk, where there is one.
+pub fn first_bad(form: &[u8]) -> Result<(), Refusal>
     ensures { result ≡ first_bad (items_from form.now 12) }
 {
     let mut came = [false; 9];
     let mut at = 12;
-    loop {
-        match chunk_at(form, at) {
-            ChunkStep::Chunk(id, start, size, next) => {
-                let kind = kind_of(id);
-                let end = start + size;
-                let bad = chunk_wrong(&form[start..end], came[kind], kind);
-                if bad != 0 {
-                    return bad;
-                }
-                came[kind] = SINGLE[kind];
-                at = next;
-            }
-            ChunkStep::Refused(number) => {
-                return number;
-            }
-            ChunkStep::End => {
-                return 0;
-            }
-        }
+    while let Some(chunk) = chunk_at(form, at)? {
+        let kind = kind_of(chunk.id);
+        let end = chunk.start + chunk.size;
+        chunk_wrong(&form[chunk.start..end], came[kind], kind)?;
+        came[kind] = SINGLE[kind];
+        at = chunk.next;
     }
+    Ok(())
 }

@@ -2,33 +2,27 @@
 ghost use Rattle.std.specs.Prelude.{◌≡◌};
 ghost use Rattle.form.specs.Find.{first_place};
 
-use chunk::{ChunkStep, chunk_at};
+use chunk::chunk_at;
 
 // Where a payload lies: its start and its length.
-#[derive(Clone, Copy)]
-pub enum Place {
-    At(usize, usize),
-    Absent,
+#[derive(Clone, Copy, Debug, PartialEq, Eq)]
+pub struct Place {
+    pub start: usize,
+    pub size: usize,
 }
 
-pub fn find(form: &[u8], id: u32) -> Place
+pub fn find(form: &[u8], id: u32) -> Option<Place>
     ensures { result ≡ first_place form.now id }
 {
     let mut at = 12;
-    loop {
-        match chunk_at(form, at) {
-            ChunkStep::Chunk(name, start, size, next) => {
-                if name == id {
-                    return Place::At(start, size);
-                }
-                at = next;
-            }
-            ChunkStep::Refused(_) => {
-                return Place::Absent;
-            }
-            ChunkStep::End => {
-                return Place::Absent;
-            }
+    while let Some(chunk) = chunk_at(form, at).unwrap_or(None) {
+        if chunk.id == id {
+            return Some(Place {
+                start: chunk.start,
+                size: chunk.size,
+            });
         }
+        at = chunk.next;
     }
+    None
 }

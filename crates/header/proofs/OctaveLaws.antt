@@ -11,19 +11,19 @@ use native.Mathlib.Omega.{arith}
 use borrow.Author.Tests.{lt-ltb, le-ltb, ltb-true, ltb-false}
 use lib.Dec.{ltb}
 use lib.Pow.{pow_pos, pow_mono, high, ones_lt, ones_split}
-use Rattle.refusal.specs.Numbers.{octave_total}
 use Rattle.header.specs.Octaves.{hi, octaves, in_octave, total_samples, total}
 use Rattle.header.specs.declared.voice_header.VoiceHeader.{VoiceHeader}
-use Rattle.header.specs.declared.voice_header.SampleCount.TheVariants.{Samples, Absent}
-use Rattle.header.specs.declared.voice_header.Total.TheVariants.{Sum, Refused}
+use Rattle.refusal.specs.declared.Refusal.TheVariants.{OctaveTotal}
+use Rattle.refusal.specs.declared.Refusal.{Refusal}
+use Rattle.std.specs.Prelude.{Err, None, Ok, Some}
 
 -- ---- a length in octave k
 
 module _ (h : VoiceHeader) (n k : ℕ) where
-  pub octave_there_lem : k < min 64 (octaves h) → in_octave h n k ≡ Samples (n * 2 ^ k % 2 ^ 64)
+  pub octave_there_lem : k < min 64 (octaves h) → in_octave h n k ≡ Some (n * 2 ^ k % 2 ^ 64)
   octave_there_lem l = rw (lt-ltb k (min 64 (octaves h)) l)
 
-  pub octave_absent : min 64 (octaves h) ≤ k → in_octave h n k ≡ Absent
+  pub octave_absent : min 64 (octaves h) ≤ k → in_octave h n k ≡ None
   octave_absent l = rw (le-ltb k (min 64 (octaves h)) l)
 
 -- octave k starts where the ones before it end: the lengths of the first k, and octave k's, are those of the first k + 1
@@ -42,17 +42,17 @@ octave_end h k l =
 
 -- ---- when the total is refused
 
-pub total_sum : (h : VoiceHeader) → total_samples h < 2 ^ 64 → total h ≡ Sum (total_samples h)
+pub total_sum : (h : VoiceHeader) → total_samples h < 2 ^ 64 → total h ≡ Ok (total_samples h)
 total_sum h l = rw (lt-ltb (total_samples h) (2 ^ 64) l)
 
-pub total_large : (h : VoiceHeader) → 2 ^ 64 ≤ total_samples h → total h ≡ Refused octave_total
+pub total_large : (h : VoiceHeader) → 2 ^ 64 ≤ total_samples h → total h ≡ Err OctaveTotal
 total_large h l = rw (le-ltb (total_samples h) (2 ^ 64) l)
 
-pub total_none : (h : VoiceHeader) → hi h ≡ 0 → total h ≡ Sum 0
+pub total_none : (h : VoiceHeader) → hi h ≡ 0 → total h ≡ Ok 0
 unfolding total_samples
 total_none h e =
     let z : total_samples h ≡ 0 = ap (λ (x : ℕ). x * (2 ^ octaves h - 1)) e ∙ zero-mul (2 ^ octaves h - 1) in
-    total_sum h (omega arith) ∙ ap Sum z
+    total_sum h (omega arith) ∙ ap Ok z
 
 -- one sample in over 64 octaves is already too much
 pub many_octaves : (h : VoiceHeader) → 0 < hi h → 64 < octaves h → 2 ^ 64 ≤ total_samples h
@@ -90,17 +90,17 @@ module _ (h : VoiceHeader) (n f : ℕ) (first : n ≡ hi h) (second : f ≡ 2 ^ 
   no_room l = omega (arith, (div-lt_iff_lt-mul {x = 2 ^ 64 - 1} factor_pos).0 l, product)
 
 -- the total, where it is one
-pub total_is : (h : VoiceHeader) (n : ℕ) → total h ≡ Sum n → (total_samples h < 2 ^ 64) × (total_samples h ≡ n)
+pub total_is : (h : VoiceHeader) (n : ℕ) → total h ≡ Ok n → (total_samples h < 2 ^ 64) × (total_samples h ≡ n)
 total_is h n = go (ltb (total_samples h) (2 ^ 64)) refl
   where
-    go : (t : Bool) → ltb (total_samples h) (2 ^ 64) ≡ t → cond t (Sum (total_samples h)) (Refused octave_total) ≡ Sum n → (total_samples h < 2 ^ 64) × (total_samples h ≡ n)
+    go : (t : Bool) → ltb (total_samples h) (2 ^ 64) ≡ t → cond t (Ok (total_samples h)) (Err OctaveTotal) ≡ Ok n → (total_samples h < 2 ^ 64) × (total_samples h ≡ n)
     go true te e = (ltb-true (total_samples h) (2 ^ 64) te, cc)
     go false te e = let z : ◌≡◌ {A = ℕ} 0 1 = cc in absurd (omega arith)
 
 -- and where it is not
-pub total_not : (h : VoiceHeader) (number : ℕ) → total h ≡ Refused number → (2 ^ 64 ≤ total_samples h) × (octave_total ≡ number)
-total_not h number = go (ltb (total_samples h) (2 ^ 64)) refl
+pub total_not : (h : VoiceHeader) (refusal : Refusal) → total h ≡ Err refusal → (2 ^ 64 ≤ total_samples h) × (OctaveTotal ≡ refusal)
+total_not h refusal = go (ltb (total_samples h) (2 ^ 64)) refl
   where
-    go : (t : Bool) → ltb (total_samples h) (2 ^ 64) ≡ t → cond t (Sum (total_samples h)) (Refused octave_total) ≡ Refused number → (2 ^ 64 ≤ total_samples h) × (octave_total ≡ number)
+    go : (t : Bool) → ltb (total_samples h) (2 ^ 64) ≡ t → cond t (Ok (total_samples h)) (Err OctaveTotal) ≡ Err refusal → (2 ^ 64 ≤ total_samples h) × (OctaveTotal ≡ refusal)
     go true te e = let z : ◌≡◌ {A = ℕ} 0 1 = cc in absurd (omega arith)
     go false te e = (ltb-false (total_samples h) (2 ^ 64) te, cc)

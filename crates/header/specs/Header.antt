@@ -1,10 +1,9 @@
 -- VHDR: seven fields in 20 bytes, big-endian.
-use Rattle.std.specs.Prelude.{ℕ, ◌^◌, ◌<◌, cond, List, [], ◌∷◌, ◌++◌, ltb, length, drop, get_or}
-use Rattle.refusal.specs.Numbers.{chunk_length}
+use Rattle.std.specs.Prelude.{ℕ, ◌^◌, ◌<◌, cond, List, [], ◌∷◌, ◌++◌, ltb, length, drop, get_or, Err, Ok}
 use Rattle.field.specs.BigEndian.{big_endian, big_endian_bytes}
 use Rattle.header.specs.declared.voice_header.VoiceHeader.{VoiceHeader}
-use Rattle.header.specs.declared.voice_header.ParsedHeader.{ParsedHeader}
-use Rattle.header.specs.declared.voice_header.ParsedHeader.TheVariants.{Parsed, Refused}
+use Rattle.refusal.specs.declared.Refusal.TheVariants.{ChunkLength}
+use Rattle.refusal.specs.Outcome.{Outcome}
 
 -- the fields of the bytes, in their order
 unfoldable pub header_of : List ℕ → VoiceHeader
@@ -26,8 +25,8 @@ header_bytes h =
     ++ (h.ct_octave ∷ h.compression_byte ∷ []) ++ big_endian_bytes 4 h.volume
 
 -- a chunk under 20 bytes is refused by 6; what lies past them is ignored
-abbrev pub parsed_header : List ℕ → ParsedHeader
-parsed_header l = cond (ltb (length l) 20) (Refused chunk_length) (Parsed (header_of l))
+abbrev pub parsed_header : List ℕ → Outcome VoiceHeader
+parsed_header l = cond (ltb (length l) 20) (Err ChunkLength) (Ok (header_of l))
 
 -- each field fits its width
 pub record Fitting (h : VoiceHeader) : Type 0 where

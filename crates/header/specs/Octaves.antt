@@ -1,11 +1,8 @@
 -- How many samples the octaves have. Octave 0 is the highest and shortest; each next one is twice as long.
-use Rattle.std.specs.Prelude.{ℕ, ◌+◌, ◌-◌, ◌*◌, ◌%◌, ◌^◌, min, max, Bool, cond, eqb, ltb}
-use Rattle.refusal.specs.Numbers.{octave_total}
+use Rattle.std.specs.Prelude.{ℕ, ◌+◌, ◌-◌, ◌*◌, ◌%◌, ◌^◌, min, max, Bool, cond, eqb, ltb, Err, None, Ok, Option, Some}
 use Rattle.header.specs.declared.voice_header.VoiceHeader.{VoiceHeader}
-use Rattle.header.specs.declared.voice_header.SampleCount.{SampleCount}
-use Rattle.header.specs.declared.voice_header.SampleCount.TheVariants.{Samples, Absent}
-use Rattle.header.specs.declared.voice_header.Total.{Total}
-use Rattle.header.specs.declared.voice_header.Total.TheVariants.{Sum, Refused}
+use Rattle.refusal.specs.declared.Refusal.TheVariants.{OctaveTotal}
+use Rattle.refusal.specs.Outcome.{Outcome}
 
 -- hi: the length of the highest octave, one-shot and repeat
 abbrev pub hi : VoiceHeader → ℕ
@@ -24,16 +21,16 @@ abbrev pub octave_there : VoiceHeader → ℕ → Bool
 octave_there h k = cond (eqb (hi h) 0) (eqb k 0) (ltb k (octaves h))
 
 -- a length n of octave 0 as it is in octave k, in 64 bits: bits shifted out are dropped. Absent from k = 64 or the number of octaves on
-abbrev pub in_octave : VoiceHeader → ℕ → ℕ → SampleCount
-in_octave h n k = cond (ltb k (min 64 (octaves h))) (Samples (n * 2 ^ k % 2 ^ 64)) Absent
+abbrev pub in_octave : VoiceHeader → ℕ → ℕ → Option ℕ
+in_octave h n k = cond (ltb k (min 64 (octaves h))) (Some (n * 2 ^ k % 2 ^ 64)) None
 
 -- the samples of all octaves together
 unfoldable pub total_samples : VoiceHeader → ℕ
 total_samples h = hi h * (2 ^ octaves h - 1)
 
 -- a total past 64 bits is refused by 13
-abbrev pub total : VoiceHeader → Total
-total h = cond (ltb (total_samples h) (2 ^ 64)) (Sum (total_samples h)) (Refused octave_total)
+abbrev pub total : VoiceHeader → Outcome ℕ
+total h = cond (ltb (total_samples h) (2 ^ 64)) (Ok (total_samples h)) (Err OctaveTotal)
 
 -- there is a part that repeats
 abbrev pub loops : VoiceHeader → Bool

@@ -2,6 +2,8 @@
 ghost use Rattle.std.specs.Prelude.{◌≡◌};
 ghost use Rattle.header.specs.Compression.{known_compression};
 
+use refusal::Refusal;
+
 #[derive(Clone, Copy)]
 pub enum Compression {
     // Each byte is a sample.
@@ -10,21 +12,15 @@ pub enum Compression {
     Fibonacci,
 }
 
-#[derive(Clone, Copy)]
-pub enum KnownCompression {
-    Known(Compression),
-    Refused(u8),
-}
-
 // The compression that a header's byte names; 10 for a byte above 1.
-pub fn known_compression(byte: u8) -> KnownCompression
+pub fn known_compression(byte: u8) -> Result<Compression, Refusal>
     ensures { result ≡ known_compression byte }
 {
     if byte == 0 {
-        return KnownCompression::Known(Compression::None);
+        return Ok(Compression::None);
     }
     if byte == 1 {
-        return KnownCompression::Known(Compression::Fibonacci);
+        return Ok(Compression::Fibonacci);
     }
-    KnownCompression::Refused(refusal::COMPRESSION)
+    Err(Refusal::UnknownCompression)
 }

@@ -4,5 +4,5 @@
 mod compression;
 mod voice_header;
 
-pub use compression::{Compression, KnownCompression, known_compression};
-pub use voice_header::{Frequency, ParsedHeader, SampleCount, Total, VoiceHeader, read_header};
+pub use compression::{Compression, known_compression};
+pub use voice_header::{VoiceHeader, read_header};

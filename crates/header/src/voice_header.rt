@@ -6,7 +6,8 @@ ghost use Rattle.header.specs.Header.{header_of, header_bytes, parsed_header};
 ghost use Rattle.header.specs.Octaves.{hi, in_octave, total, loops, octave_there};
 ghost use Rattle.header_volume.specs.Volume.{volume_float};
 
-use crate::compression::{KnownCompression, known_compression};
+use crate::compression::{Compression, known_compression};
+use refusal::Refusal;
 
 #[derive(Clone, Copy)]
 pub struct VoiceHeader {
@@ -24,33 +25,6 @@ pub struct VoiceHeader {
     pub compression_byte: u8,
     // 16.16: 65,536 is full.
     pub volume: u32,
-}
-
-#[derive(Clone, Copy)]
-pub enum ParsedHeader {
-    Parsed(VoiceHeader),
-    Refused(u8),
-}
-
-// A number of samples, or that there is no such octave.
-#[derive(Clone, Copy)]
-pub enum SampleCount {
-    Samples(u64),
-    Absent,
-}
-
-// The samples of all octaves together, or that they are too many.
-#[derive(Clone, Copy)]
-pub enum Total {
-    Sum(u64),
-    Refused(u8),
-}
-
-// A frequency in Hz, or that the header doesn't tell.
-#[derive(Clone, Copy)]
-pub enum Frequency {
-    Known(f64),
-    Unknown,
 }
 
 // The 20 bytes from `at` on.
@@ -77,13 +51,13 @@ pub fn read_header(s: &[u8], at: usize) -> VoiceHeader
 
 impl VoiceHeader {
     // The header of a VHDR chunk.
-    pub fn parse(body: &[u8]) -> ParsedHeader
+    pub fn parse(body: &[u8]) -> Result<VoiceHeader, Refusal>
         ensures { result ≡ parsed_header body.now }
     {
         if body.len() < 20 {
-            return ParsedHeader::Refused(refusal::CHUNK_LENGTH);
+            return Err(Refusal::ChunkLength);
         }
-        ParsedHeader::Parsed(read_header(body, 0))
+        Ok(read_header(body, 0))
     }
 
     // Its 20 bytes.
@@ -102,7 +76,7 @@ impl VoiceHeader {
     }
 
     // How BODY is stored; 10 where the byte names no compression.
-    pub fn compression(self) -> KnownCompression
+    pub fn compression(self) -> Result<Compression, Refusal>
         ensures { result ≡ known_compression self.compression_byte }
     {
         known_compression(self.compression_byte)
@@ -129,39 +103,39 @@ impl VoiceHeader {
     }
 
     // A length n of octave 0 as it is in octave k. Bits shifted out of 64 are dropped.
-    fn in_octave(self, n: u64, k: u8) -> SampleCount
+    fn in_octave(self, n: u64, k: u8) -> Option<u64>
         ensures { result ≡ in_octave self n k }
     {
         if 64 <= k {
-            return SampleCount::Absent;
+            return None;
         }
         if self.ct_octave <= k {
             if 1 <= k {
-                return SampleCount::Absent;
+                return None;
             }
             let samples = n << k;
-            return SampleCount::Samples(samples);
+            return Some(samples);
         }
         let samples = n << k;
-        SampleCount::Samples(samples)
+        Some(samples)
     }
 
     // The length of octave k.
-    pub fn octave_samples(self, k: u8) -> SampleCount
+    pub fn octave_samples(self, k: u8) -> Option<u64>
         ensures { result ≡ in_octave self (hi self) k }
     {
         self.in_octave(self.hi_octave_samples(), k)
     }
 
     // The length of octave k's one-shot part.
-    pub fn one_shot_samples(self, k: u8) -> SampleCount
+    pub fn one_shot_samples(self, k: u8) -> Option<u64>
         ensures { result ≡ in_octave self self.one_shot_hi_samples k }
     {
         self.in_octave(self.one_shot_hi_samples as u64, k)
     }
 
     // The length of octave k's repeat part.
-    pub fn repeat_samples(self, k: u8) -> SampleCount
+    pub fn repeat_samples(self, k: u8) -> Option<u64>
         ensures { result ≡ in_octave self self.repeat_hi_samples k }
     {
         self.in_octave(self.repeat_hi_samples as u64, k)
@@ -169,15 +143,15 @@ impl VoiceHeader {
 
     // The samples of all octaves; 13 where they pass 64 bits. To stay within them, hi is compared with what the other
     // factor leaves room for.
-    pub fn total_samples_per_channel(self) -> Total
+    pub fn total_samples_per_channel(self) -> Result<u64, Refusal>
         ensures { result ≡ total self }
     {
         let hi = self.hi_octave_samples();
         if hi == 0 {
-            return Total::Sum(0);
+            return Ok(0);
         }
         if 64 < self.ct_octave {
-            return Total::Refused(refusal::OCTAVE_TOTAL);
+            return Err(Refusal::OctaveTotal);
         }
         let octaves = if self.ct_octave == 0 {
             1
@@ -186,10 +160,10 @@ impl VoiceHeader {
         };
         let factor = 0xffff_ffff_ffff_ffff >> (64 - octaves);
         if 0xffff_ffff_ffff_ffff / factor < hi {
-            return Total::Refused(refusal::OCTAVE_TOTAL);
+            return Err(Refusal::OctaveTotal);
         }
         let sum = hi * factor;
-        Total::Sum(sum)
+        Ok(sum)
     }
 
     // That there is a part that repeats.
@@ -207,17 +181,17 @@ impl VoiceHeader {
     }
 
     // The highest octave's frequency.
-    pub fn hi_cycle_frequency_hz(self) -> Frequency
+    pub fn hi_cycle_frequency_hz(self) -> Option<f64>
         ensures { result ≡ cycle_frequency self.samples_per_sec self.samples_per_hi_cycle }
     {
         if self.samples_per_sec == 0 {
-            return Frequency::Unknown;
+            return None;
         }
         if self.samples_per_hi_cycle == 0 {
-            return Frequency::Unknown;
+            return None;
         }
         let rate = self.samples_per_sec as f64;
         let per_cycle = self.samples_per_hi_cycle as f64;
-        Frequency::Known(rate / per_cycle)
+        Some(rate / per_cycle)
     }
 }

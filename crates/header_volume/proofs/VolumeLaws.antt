@@ -1,12 +1,15 @@
 -- The number of digits dropped, the bounds that the code needs, and that Rust's `volume as f32 / 65536.0` is the same float. Assumes nothing.
 use mathlib.Core.Path.{◌≡◌, refl, sym, ap, ◌∙◌, subst}
 use mathlib.Core.Bool.{Bool, true, false}
-use Prim.Native.Nat.{ℕ, suc, ◌+◌, ◌-◌, ◌*◌, ◌/◌, ◌%◌, ◌^◌, ◌≤◌, ◌<◌, compare, Ordering}
+use Prim.Native.Nat.{ℕ, zero, suc, zero-le, ◌+◌, ◌-◌, ◌*◌, ◌/◌, ◌%◌, ◌^◌, ◌≤◌, ◌<◌, compare, Ordering}
 use native.Mathlib.Nat.{le_trans, le_of_eq, le_of_lt, lt_irrefl, lt_of_lt_of_le, lt_of_le_of_lt, lt_of_not-le, not-le_of_lt}
 use native.Mathlib.Nat.{mul-one, one-mul, mul_assoc, mul_comm, mul_right_comm, mul-pos, mul-le-mul_right, mul-le-mul_left, mul-div_cancel, mul-lt-mul_of_pos_right}
 use native.Mathlib.Nat.{div-one, mod-one, eq_of_mul-eq-mul_right}
 use native.Mathlib.Omega.{arith}
 use borrow.Author.Tests.{ltb-true, ltb-false}
+use lib.Count.{count_leading_zeros}
+use Rattle.std.proofs.lemmas.Nat.{leading_length}
+use Rattle.std.proofs.Math.Nat.{pow-suc}
 use lib.Dec.{T, ltb, is_le, compare_is_eq, le→leb, leb→le, eqb→eq, lit<}
 use lib.IntN.{pos}
 use lib.Pow.{pow-add, pow_pos, pow_mono}
@@ -33,12 +36,23 @@ digit_small v h =
     let z : size v - 24 ≡ 0 = omega (arith, size-le v 24 h) in
     ap (λ (x : ℕ). 2 ^ x) z
 
--- 24 + k digits, with k above 0
-pub digit_at : (v k : ℕ) → 2 ^ (23 + k) ≤ v → v < 2 ^ (24 + k) → lowest_digit v ≡ 2 ^ k
+-- how many digits a number has, by its leading zeros
+size_is : (v : ℕ) → v < 2 ^ 32 → size v ≡ 32 - count_leading_zeros 32 v
+size_is v h =
+    let counted = leading_length 32 v h in
+    let least : counted.0 ≤ size v = reached counted.0 counted.3 in
+    omega (arith, counted.1, size-le v counted.0 counted.2, least)
+  where
+    reached : (m : ℕ) → 2 ^ m ≤ 2 * v + 1 → m ≤ size v
+    reached zero g = zero-le
+    reached (suc m) g = size_gt v m (omega (arith, g, pow-suc 2 m))
+
+-- a digit is dropped for each leading zero short of eight
+pub digit_is : (v : ℕ) → v < 2 ^ 32 → 2 ^ (8 - count_leading_zeros 32 v) ≡ lowest_digit v
 unfolding lowest_digit
-digit_at v k lo hi =
-    let z : size v - 24 ≡ k = omega (arith, size-le v (24 + k) hi, size_gt v (23 + k) lo) in
-    ap (λ (x : ℕ). 2 ^ x) z
+digit_is v h =
+    let e : 8 - count_leading_zeros 32 v ≡ size v - 24 = omega (arith, size_is v h) in
+    ap (λ (x : ℕ). 2 ^ x) e
 
 pub digit_pos : (v : ℕ) → 0 < lowest_digit v
 unfolding lowest_digit

@@ -5,35 +5,13 @@
 ghost use Rattle.std.specs.Prelude.{◌≡◌};
 ghost use Rattle.header_volume.specs.Volume.{lowest_digit, kept_digits, volume_float};
 
+use std::cmp::Ordering;
+
 // The place value of the lowest digit that is kept: 1, or 2^k where the number has 24 + k digits.
 fn lowest_digit(volume: u32) -> u32
     ensures { result ≡ lowest_digit volume }
 {
-    if volume < 0x100_0000 {
-        return 1;
-    }
-    if volume < 0x200_0000 {
-        return 2;
-    }
-    if volume < 0x400_0000 {
-        return 4;
-    }
-    if volume < 0x800_0000 {
-        return 8;
-    }
-    if volume < 0x1000_0000 {
-        return 16;
-    }
-    if volume < 0x2000_0000 {
-        return 32;
-    }
-    if volume < 0x4000_0000 {
-        return 64;
-    }
-    if volume < 0x8000_0000 {
-        return 128;
-    }
-    256
+    1 << 8u32.saturating_sub(volume.leading_zeros())
 }
 
 // The volume in multiples of that, to the nearest, a tie to the even one.
@@ -43,13 +21,11 @@ fn kept_digits(volume: u32) -> u32
     let u = lowest_digit(volume);
     let q = volume / u;
     let twice = volume % u * 2;
-    if twice < u {
-        return q;
+    match twice.cmp(&u) {
+        Ordering::Less => q,
+        Ordering::Equal => q + q % 2,
+        Ordering::Greater => q + 1,
     }
-    if twice == u {
-        return q + q % 2;
-    }
-    q + 1
 }
 
 // A 16.16 volume as a float: 65,536 is 1.0.

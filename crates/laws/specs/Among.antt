@@ -1,7 +1,7 @@
--- A number of a list.
-use Rattle.std.specs.Prelude.{ℕ, List, [], ◌∷◌, ◌⊎◌, ◌≡◌}
+-- One of a list.
+use Rattle.std.specs.Prelude.{List, [], ◌∷◌, ◌⊎◌, ◌≡◌}
 
--- the number is one of these
-abbrev pub Among : ℕ → List ℕ → Type 0
+-- it is one of these
+abbrev pub Among : {A : Type 0} → A → List A → Type 0
 Among n [] = ⊥
 Among n (m ∷ ms) = (n ≡ m) ⊎ Among n ms

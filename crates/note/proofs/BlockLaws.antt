@@ -5,7 +5,6 @@ use Prim.Native.Nat.{ℕ, ◌/◌, min}
 use mathlib.Core.List.{List}
 use mathlib.Core.Path.{◌≡◌, refl, sym, ◌∙◌}
 use lib.ListN.{length}
-use Rattle.refusal.specs.Outcome.{Outcome, gives}
 use Rattle.sheet.specs.Voice.{Voice}
 use Rattle.body_read.specs.Sides.{Sides}
 use Rattle.note_frame.specs.declared.chain.Frame.{Frame}
@@ -15,13 +14,15 @@ use Rattle.note_rules.proofs.RuleLaws.{NotAhead, rules_capped}
 use Rattle.note.specs.Fill.{fill_voice}
 use Rattle.note_frame.specs.Frame.{frame}
 use Rattle.note_frame.proofs.FrameLaws.{frame_capped}
-use Rattle.note.proofs.FillLaws.{next_frames, fill_accepted, first_zero, fill_same}
+use Rattle.note.proofs.FillLaws.{next_frames, fill_accepted, none_first_of, fill_same}
+use Rattle.refusal.specs.Outcome.{Outcome}
+use Rattle.std.specs.Prelude.{Ok}
 
 module _ (v : Voice) (s : Sides) (n : Playing) (frames places : ℕ) where
-  pub block_frames : (block : List Frame) → fill_voice v s n frames places ≡ gives block → block ≡ next_frames v s n frames places
+  pub block_frames : (block : List Frame) → fill_voice v s n frames places ≡ Ok block → block ≡ next_frames v s n frames places
   block_frames block e =
-      let none = first_zero v s n frames places block e in
-      let same : ◌≡◌ {A = Outcome (List Frame)} (gives block) (gives (next_frames v s n frames places)) = sym e ∙ fill_accepted v s n frames places _ refl none in
+      let none = none_first_of v s n frames places block e in
+      let same : ◌≡◌ {A = Outcome (List Frame)} (Ok block) (Ok (next_frames v s n frames places)) = sym e ∙ fill_accepted v s n frames places none in
       cc
 
   pub block_capped : NotAhead n.key (min frames 4294967295) → fill_voice v s n (min frames 4294967295) places ≡ fill_voice v s n frames places

@@ -4,14 +4,15 @@
 ghost use Rattle.std.specs.Prelude.{◌≡◌, length};
 ghost use Rattle.sheet.specs.Judge.{judged};
 ghost use Rattle.sheet.specs.Read.{read_sheet};
-ghost use Rattle.sheet.specs.declared.judge.Judged.TheVariants.{Sound};
-ghost use Rattle.note.specs.Note.{start_of, key_after, key_up_of, advance_of};
+ghost use Rattle.std.specs.Prelude.{Ok};
+ghost use Rattle.note.specs.Note.{start_of, key_up_of, advance_of};
 ghost use Rattle.note.specs.Fill.{fill_voice, fill_leaves, after_fill};
 
 use note_block::next_block;
 use note_frame::{Key, Playing};
 use note_rules::fill_refusal;
-use sheet::{Judged, judge_sheet};
+use refusal::Refusal;
+use sheet::judge_sheet;
 use sheet_layout::layout_of;
 
 // A note: how it plays (octave, velocity, step, output rate, held or released), and the frames filled.
@@ -21,28 +22,11 @@ pub struct Note {
     pub frames: u32,
 }
 
-// How many frames of a block weren't over, or why there is none.
-#[derive(Clone, Copy)]
-pub enum Answer {
-    Sounding(usize),
-    Refused(u8),
-}
-
 // The note after a fill, and its answer.
 #[derive(Clone, Copy)]
 pub struct Filled {
     pub note: Note,
-    pub answer: Answer,
-}
-
-// Only the first key-up counts.
-fn released_at(key: Key, frame: u32) -> Key
-    ensures { result ≡ key_after key frame }
-{
-    match key {
-        Key::Held => Key::Released(frame),
-        Key::Released(u) => Key::Released(u),
-    }
+    pub answer: Result<usize, Refusal>,
 }
 
 impl Note {
@@ -60,24 +44,14 @@ impl Note {
         Note { playing, frames: 0 }
     }
 
-    // The note after a key-up, which is at the frames filled. A later one changes nothing.
-    pub fn key_up(self) -> Self
+    // The note after a key-up, which is at the frames filled. Only the first one counts.
+    pub fn key_up(mut self) -> Self
         ensures { result ≡ key_up_of self }
     {
-        let p = self.playing;
-        let before = p.key;
-        let key = released_at(before, self.frames);
-        let playing = Playing {
-            octave: p.octave,
-            velocity: p.velocity,
-            step: p.step,
-            rate: p.rate,
-            key,
-        };
-        Note {
-            playing,
-            frames: self.frames,
+        if let Key::Held = self.playing.key {
+            self.playing.key = Key::Released(self.frames);
         }
+        self
     }
 
     // The note after so many frames more; they stop at 4,294,967,295.
@@ -95,14 +69,14 @@ impl Note {
 
     // A fill of a sound sheet.
     fn fill_sound(self, sheet: &[u8], left: &[i8], right: &[i8], out: &mut [i16]) -> Filled
-        requires { judged sheet.now ≡ Sound }
+        requires { judged sheet.now ≡ Ok tt }
         ensures answer { result.answer ≡ (fill_leaves (fill_voice (read_sheet sheet.now) (record { left = left.entry.now; right = right.now }) self.playing self.frames (length out.old)) self out.old).answer }
         ensures note { result.note ≡ (fill_leaves (fill_voice (read_sheet sheet.now) (record { left = left.entry.now; right = right.now }) self.playing self.frames (length out.old)) self out.old).note }
         ensures buffer { out.new ≡ (fill_leaves (fill_voice (read_sheet sheet.now) (record { left = left.entry.now; right = right.now }) self.playing self.frames (length out.old)) self out.old).buffer }
     {
         let l = layout_of(sheet);
         let playing = self.playing;
-        let number = fill_refusal(
+        if let Err(refusal) = fill_refusal(
             sheet,
             l,
             left.len(),
@@ -110,11 +84,10 @@ impl Note {
             playing,
             self.frames,
             out.len(),
-        );
-        if number != 0 {
+        ) {
             return Filled {
                 note: self,
-                answer: Answer::Refused(number),
+                answer: Err(refusal),
             };
         }
         let frames = out.len() / 2;
@@ -122,7 +95,7 @@ impl Note {
         let note = self.advance(frames);
         Filled {
             note,
-            answer: Answer::Sounding(count),
+            answer: Ok(count),
         }
     }
 
@@ -134,11 +107,11 @@ impl Note {
         ensures buffer { out.new ≡ (after_fill sheet.now (record { left = left.entry.now; right = right.now }) self out.old).buffer }
     {
         match judge_sheet(sheet) {
-            Judged::Refused(number) => Filled {
+            Err(refusal) => Filled {
                 note: self,
-                answer: Answer::Refused(number),
+                answer: Err(refusal),
             },
-            Judged::Sound => self.fill_sound(sheet, left, right, out),
+            Ok(()) => self.fill_sound(sheet, left, right, out),
         }
     }
 }

@@ -11,7 +11,6 @@ use Prim.Native.Nat.{ℕ, ◌+◌, ◌-◌, ◌*◌, ◌%◌, ◌≤◌, ◌<◌
 use mathlib.Core.Bool.{Bool, true, false, cond, ◌||◌}
 use mathlib.Core.List.{List}
 use mathlib.Core.Logic.{◌⊎◌, inl, inr}
-use mathlib.Core.Option.{Option, none, some}
 use mathlib.Core.Path.{◌≡◌, refl, sym}
 use native.Mathlib.Nat.{zero-mul}
 use native.Mathlib.Omega.{arith}
@@ -36,6 +35,7 @@ use Rattle.refusal.specs.Rules.{first_holding}
 use Rattle.note_rules.specs.Rules.{fade_misses, key_up_ahead, fill_rules}
 use Rattle.note_frame.specs.declared.playing.Playing.{Playing}
 use Rattle.note_rules.proofs.RuleLaws.{NoneOf, none_of}
+use Rattle.std.specs.Prelude.{None, Option, Some, Ok}
 
 -- ---- the octave
 
@@ -78,22 +78,22 @@ module _ (h : VoiceHeader) (k n : ℕ) where
 -- a fade's segment is among those of a sequence
 fade_among : (fade : Option Fade) (sequence : Option (List SeqnSegment)) (k : ℕ) → fade_misses fade (length (segments_of sequence)) ≡ false
     → joined_length (2 ^ k) (segments_of sequence) < 2 ^ 32 → FadeOn fade sequence k
-fade_among none sequence k among short = tt
-fade_among (some f) (some segments) k among short = short
-fade_among (some f) none k among short = absurd (omega (arith, ltb-true f.segment 0 (not-false (ltb f.segment 0) among)))
+fade_among None sequence k among short = tt
+fade_among (Some f) (Some segments) k among short = short
+fade_among (Some f) None k among short = absurd (omega (arith, ltb-true f.segment 0 (not-false (ltb f.segment 0) among)))
 
 pub fade_ends : (v : Voice) (n k velocity : ℕ) →
     let g = gains_of v k velocity in
-    g.fades ≡ true → (q i : ℕ) → path_of v.sequence v.header n k q ≡ some i → q < g.path_length
+    g.fades ≡ true → (q i : ℕ) → path_of v.sequence v.header n k q ≡ Some i → q < g.path_length
 fade_ends v n k velocity fades q i = go v.sequence refl
   where
-    go : (sequence : Option (List SeqnSegment)) → v.sequence ≡ sequence → path_of sequence v.header n k q ≡ some i → q < (gains_of v k velocity).path_length
-    go none e there = let not : (gains_of v k velocity).fades ≡ false = gains_no_fade v k velocity e in impossible cc
-    go (some segments) e there = omega (arith, gains_fade v k velocity segments e fades, sequence_ends segments v.header n k q i there)
+    go : (sequence : Option (List SeqnSegment)) → v.sequence ≡ sequence → path_of sequence v.header n k q ≡ Some i → q < (gains_of v k velocity).path_length
+    go None e there = let not : (gains_of v k velocity).fades ≡ false = gains_no_fade v k velocity e in impossible cc
+    go (Some segments) e there = omega (arith, gains_fade v k velocity segments e fades, sequence_ends segments v.header n k q i there)
 
 -- ---- what none of the rules leaves
 
-module _ (v : Voice) (left right : ℕ) (n : Playing) (frames places : ℕ) (accepted : first_holding (fill_rules v left right n frames places) ≡ 0) where
+module _ (v : Voice) (left right : ℕ) (n : Playing) (frames places : ℕ) (accepted : first_holding (fill_rules v left right n frames places) ≡ Ok tt) where
   parts : NoneOf v left right n frames places
   parts = none_of v left right n frames places accepted
 

@@ -5,7 +5,6 @@
 use Prim.Native.Nat.{ℕ, ◌-◌, ◌/◌, ◌≤◌, ◌<◌, ◌^◌, min}
 use mathlib.Core.Bool.{Bool}
 use mathlib.Core.List.{List}
-use mathlib.Core.Option.{Option}
 use mathlib.Core.Path.{◌≡◌, refl, sym, ap, subst, ◌∙◌}
 use native.Mathlib.Omega.{arith}
 use lib.IntN.{ℤ}
@@ -16,12 +15,9 @@ use Rattle.header.specs.declared.voice_header.VoiceHeader.{VoiceHeader}
 use Rattle.small_chunks.specs.declared.sequence.SeqnSegment.{SeqnSegment}
 use Rattle.sheet.specs.Judge.{judged}
 use Rattle.sheet.specs.Read.{read_sheet}
-use Rattle.sheet.specs.declared.judge.Judged.TheVariants.{Sound}
-use Rattle.sheet_layout.specs.Answers.{sequence_answer}
 use Rattle.sheet_layout.specs.Layout.{layout_of}
 use Rattle.sheet_layout.specs.Members.{between, segments_in, Whole}
 use Rattle.sheet_layout.specs.declared.Layout.{Layout}
-use Rattle.sheet_layout.specs.declared.MaybeSequence.{MaybeSequence}
 use Rattle.note_path.specs.Path.{path_of}
 use Rattle.note_path.specs.Run.{place_of, sequence_in, InOctave, Sane, PathIs}
 use Rattle.note_path.specs.declared.run.Path.{Path}
@@ -33,12 +29,13 @@ use Rattle.note_frame.specs.declared.playing.Playing.{Playing}
 use Rattle.note_rules.specs.Rules.{fill_rules}
 use Rattle.note_rules.proofs.SequenceLaws.{part_segments, part_whole}
 use Rattle.note_block.specs.Block.{sequence_part, BlockReady}
-use Rattle.note_block.specs.Stages.{is_there}
+use Rattle.std.specs.Option.{is_some}
 use Rattle.note_block.proofs.SheetLaws.{segments_at, sequence_is}
 use Rattle.note_block.proofs.AcceptedLaws.{in_octave_lem, fade_fits, fade_ends, sides_same, slow_step, some_rate, slow_rate, key_up_then, most_velocity}
+use Rattle.std.specs.Prelude.{Ok, Option, option_map}
 
-module _ (n : Playing) (frames places : ℕ) (sheet : List ℕ) (l : Layout) (left right : List ℤ) (bytes : (i : ℕ) → Fits w8 (get_or sheet i 0)) (sound : judged sheet ≡ Sound)
-    (is : l ≡ layout_of (read_sheet sheet)) (accepted : first_holding (fill_rules (read_sheet sheet) (length left) (length right) n frames places) ≡ 0) (small : length left < 2 ^ 63) where
+module _ (n : Playing) (frames places : ℕ) (sheet : List ℕ) (l : Layout) (left right : List ℤ) (bytes : (i : ℕ) → Fits w8 (get_or sheet i 0)) (sound : judged sheet ≡ Ok tt)
+    (is : l ≡ layout_of (read_sheet sheet)) (accepted : first_holding (fill_rules (read_sheet sheet) (length left) (length right) n frames places) ≡ Ok tt) (small : length left < 2 ^ 63) where
   -- the header that was read
   module _ (h : VoiceHeader) (header : h ≡ (read_sheet sheet).header) where
     pub path_asks : InOctave h n.octave (length left) (segments_in (between l.sequence l.fade sheet)) × Whole 8 8 (between l.sequence l.fade sheet)
@@ -46,7 +43,7 @@ module _ (n : Playing) (frames places : ℕ) (sheet : List ℕ) (l : Layout) (le
         rw (header, part_segments sheet bytes sound l is) (in_octave_lem (read_sheet sheet) (length left) (length right) n frames places accepted small, part_whole sheet bytes sound l is)
 
     -- the path that was made
-    module _ (answer : MaybeSequence) (there : Bool) (path : Path) (answered : answer ≡ sequence_answer (read_sheet sheet).sequence) (told : there ≡ is_there answer)
+    module _ (answer : Option ℕ) (there : Bool) (path : Path) (answered : answer ≡ option_map length (read_sheet sheet).sequence) (told : there ≡ is_some answer)
         (made : PathIs h n.octave there (length left) (between l.sequence l.fade sheet) path) where
       place_is : (q : ℕ) → place_of path (sequence_part sheet) q ≡ path_of (read_sheet sheet).sequence (read_sheet sheet).header (length left) n.octave q
       place_is q =

@@ -1,5 +1,4 @@
 -- Laws of the next block of a note.
-pub mod SilenceLaws
 pub mod StartLaws
 pub mod StageLaws
 pub mod WholeLaws

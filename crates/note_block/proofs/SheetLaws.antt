@@ -6,7 +6,6 @@
 use Prim.Native.Nat.{ℕ, ◌≤◌}
 use mathlib.Core.Bool.{Bool}
 use mathlib.Core.List.{List}
-use mathlib.Core.Option.{Option, none, some}
 use mathlib.Core.Path.{◌≡◌, refl, ap, ◌∙◌}
 use lib.ListN.{length, get_or}
 use mir.Syntax.{w8}
@@ -14,21 +13,19 @@ use mir.Val.{Fits}
 use Rattle.small_chunks.specs.declared.sequence.SeqnSegment.{SeqnSegment}
 use Rattle.sheet.specs.Judge.{judged}
 use Rattle.sheet.specs.Read.{read_sheet}
-use Rattle.sheet.specs.declared.judge.Judged.TheVariants.{Sound}
-use Rattle.sheet_layout.specs.Answers.{sequence_answer}
 use Rattle.sheet_layout.specs.Layout.{layout_of}
 use Rattle.sheet_layout.specs.Joined.{joined}
 use Rattle.sheet_layout.specs.Members.{between, points_in, segments_in, Whole}
 use Rattle.sheet_layout.specs.declared.Layout.{Layout}
-use Rattle.sheet_layout.specs.declared.MaybeSequence.{MaybeSequence}
 use Rattle.sheet_layout.proofs.PointLaws.{places, attack_points, attacks_whole, release_points, releases_whole}
 use Rattle.note_path.specs.Run.{sequence_in}
 use Rattle.note_path.specs.Path.{segments_of}
 use Rattle.note_rules.proofs.SequenceLaws.{part_segments}
 use Rattle.note_block.specs.Block.{sequence_part}
-use Rattle.note_block.specs.Stages.{is_there}
+use Rattle.std.specs.Option.{is_some}
+use Rattle.std.specs.Prelude.{None, Ok, Option, Some, option_map}
 
-module _ (sheet : List ℕ) (bytes : (i : ℕ) → Fits w8 (get_or sheet i 0)) (sound : judged sheet ≡ Sound) (l : Layout) (is : l ≡ layout_of (read_sheet sheet)) where
+module _ (sheet : List ℕ) (bytes : (i : ℕ) → Fits w8 (get_or sheet i 0)) (sound : judged sheet ≡ Ok tt) (l : Layout) (is : l ≡ layout_of (read_sheet sheet)) where
   pub places_are : (l.attacks ≤ l.releases) × (l.releases ≤ l.sequence) × (l.sequence ≤ l.fade) × (l.fade ≤ length sheet)
   places_are = rw is (places sheet bytes sound)
 
@@ -46,11 +43,11 @@ module _ (sheet : List ℕ) (bytes : (i : ℕ) → Fits w8 (get_or sheet i 0)) (
   segments_at = ap (λ (l : Layout). between l.sequence l.fade sheet) is
 
   -- what the code's answers say
-  pub sequence_is : (answer : MaybeSequence) (there : Bool) → answer ≡ sequence_answer (read_sheet sheet).sequence → there ≡ is_there answer
+  pub sequence_is : (answer : Option ℕ) (there : Bool) → answer ≡ option_map length (read_sheet sheet).sequence → there ≡ is_some answer
       → sequence_in there (between l.sequence l.fade sheet) ≡ (read_sheet sheet).sequence
   sequence_is answer there e t =
-      ap (λ (b : Bool). sequence_in b (between l.sequence l.fade sheet)) (t ∙ ap is_there e) ∙ go (read_sheet sheet).sequence (part_segments sheet bytes sound l is)
+      ap (λ (b : Bool). sequence_in b (between l.sequence l.fade sheet)) (t ∙ ap is_some e) ∙ go (read_sheet sheet).sequence (part_segments sheet bytes sound l is)
     where
-      go : (o : Option (List SeqnSegment)) → segments_in (between l.sequence l.fade sheet) ≡ segments_of o → sequence_in (is_there (sequence_answer o)) (between l.sequence l.fade sheet) ≡ o
-      go none e = refl
-      go (some segments) e = ap some e
+      go : (o : Option (List SeqnSegment)) → segments_in (between l.sequence l.fade sheet) ≡ segments_of o → sequence_in (is_some (option_map length o)) (between l.sequence l.fade sheet) ≡ o
+      go None e = refl
+      go (Some segments) e = ap Some e

@@ -2,7 +2,6 @@
 -- Assumes nothing.
 use Prim.Native.Nat.{ℕ, ◌≤◌, ◌<◌}
 use mathlib.Core.List.{List}
-use mathlib.Core.Option.{some}
 use mathlib.Core.Path.{◌≡◌, refl, sym, ap, ◌∙◌}
 use lib.IntN.{ℤ, pos}
 use lib.ListN.{length}
@@ -23,6 +22,7 @@ use Rattle.note_frame.specs.declared.playing.Key.{Key}
 use Rattle.note_frame.specs.declared.playing.Key.TheVariants.{Held, Released}
 use Rattle.note_block.specs.Stages.{attack_in, attack_stage, release_stage}
 use Rattle.note_frame.proofs.FrameLaws.{frame_is, attack_is, level_held, level_released}
+use Rattle.std.specs.Prelude.{Some}
 
 -- the attack of a part that holds a voice's attacks
 attack_in_lem : (v : Voice) (rate : ℕ) (attack : List ℕ) → points_in attack ≡ joined v.attacks → (p : ℕ) → attack_in attack rate p ≡ attack_level v rate p
@@ -43,7 +43,7 @@ module _ (v : Voice) (n : Playing) (left right : List ℤ) (g : Gains) (path : P
         → stage_frame g path (attack_stage attack n.step n.rate) attack segments left right p ≡ frame v (record { left = left; right = right }) (with_key n Held) p
     held_frame_lem p h =
         stage_frame_lem (attack_stage attack n.step n.rate) attack Held p refl h
-        (stage_held attack (start_level (points_in attack)) _ (ms_since n.rate 0 p) refl ∙ ap some (attack_in_lem v n.rate attack attack_are p) ∙ sym (level_held v n.rate p))
+        (stage_held attack (start_level (points_in attack)) _ (ms_since n.rate 0 p) refl ∙ ap Some (attack_in_lem v n.rate attack attack_are p) ∙ sym (level_held v n.rate p))
 
     pub released_frame : (release : List ℕ) → points_in release ≡ joined v.releases → (u p : ℕ) → u ≤ p → p < 4294967295
         → stage_frame g path (release_stage attack n.step n.rate u) release segments left right p ≡ frame v (record { left = left; right = right }) (with_key n (Released u)) p

@@ -1,9 +1,7 @@
 -- What the code of an accepted block asks, in places and numbers, and what it gives. No reader of the definition of a frame needs it.
-use Rattle.std.specs.Prelude.{ℕ, ◌+◌, ◌*◌, ◌≤◌, ◌<◌, ◌^◌, true, false, List, ◌≡◌, ℤ, length}
-use Rattle.std.proofs.Math.Option.{some}
+use Rattle.std.specs.Prelude.{ℕ, ◌+◌, ◌*◌, ◌≤◌, ◌<◌, ◌^◌, true, false, List, ◌≡◌, ℤ, length, Ok, Some}
 use Rattle.sheet.specs.Judge.{judged}
 use Rattle.sheet.specs.Read.{read_sheet}
-use Rattle.sheet.specs.declared.judge.Judged.TheVariants.{Sound}
 use Rattle.sheet_layout.specs.Layout.{layout_of, sequence_at, fade_at}
 use Rattle.sheet_layout.specs.Members.{between}
 use Rattle.sheet_layout.specs.declared.Layout.{Layout}
@@ -23,7 +21,7 @@ sequence_part sheet = between (sequence_at (read_sheet sheet)) (fade_at (read_sh
 
 -- gains and path are the voice's, and the block ends before frame 4,294,967,295
 pub record BlockReady (n : Playing) (frames : ℕ) (sheet : List ℕ) (l : Layout) (g : Gains) (path : Path) (left right : List ℤ) (d : ℕ) (out : List ℤ) : Type 0 where
-  pub sound : judged sheet ≡ Sound
+  pub sound : judged sheet ≡ Ok tt
   pub layout_is : l ≡ layout_of (read_sheet sheet)
   pub gains_are : g ≡ gains_of (read_sheet sheet) n.octave n.velocity
   pub bounded : Bounded g
@@ -31,7 +29,7 @@ pub record BlockReady (n : Playing) (frames : ℕ) (sheet : List ℕ) (l : Layou
   pub samples_are : path.samples ≡ length left
   pub place_is : (q : ℕ) → place_of path (sequence_part sheet) q ≡ path_of (read_sheet sheet).sequence (read_sheet sheet).header (length left) n.octave q
   pub sides_are : g.stereo ≡ true → length left ≤ length right
-  pub fade_ends : g.fades ≡ true → (q i : ℕ) → place_of path (sequence_part sheet) q ≡ some i → q < g.path_length
+  pub fade_ends : g.fades ≡ true → (q i : ℕ) → place_of path (sequence_part sheet) q ≡ Some i → q < g.path_length
   pub rate_some : 0 < n.rate
   pub rate_fits : n.rate ≤ 192000
   pub step_fits : n.step ≤ 16777216

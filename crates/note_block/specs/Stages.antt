@@ -1,17 +1,10 @@
 -- What the code takes from the sheet for a block; no reader of the definition of a frame needs it.
-use Rattle.std.specs.Prelude.{ℕ, Bool, true, false, List, pos}
+use Rattle.std.specs.Prelude.{ℕ, true, false, List, pos}
 use Rattle.small_chunks.specs.Pan.{held_to_unity}
 use Rattle.envelope.specs.Envelope.{level_at}
 use Rattle.sheet_layout.specs.Members.{points_in}
-use Rattle.sheet_layout.specs.declared.MaybeSequence.{MaybeSequence}
-use Rattle.sheet_layout.specs.declared.MaybeSequence.TheVariants.{Segments, NoSequence}
 use Rattle.note_frame.specs.Frame.{ms_since, start_level}
 use Rattle.note_stage.specs.declared.Stage.{Stage}
-
--- there is a sequence
-abbrev pub is_there : MaybeSequence → Bool
-is_there (Segments n) = true
-is_there NoSequence = false
 
 -- the level of the attack in a part of the sheet, at frame p
 abbrev pub attack_in : List ℕ → ℕ → ℕ → ℕ

@@ -8,14 +8,14 @@ ghost use Rattle.std.specs.Prelude.{◌≡◌, ◌-◌, ◌/◌, min, length};
 ghost use Rattle.sheet_layout.specs.Layout.{layout_of};
 ghost use Rattle.sheet.specs.Judge.{judged};
 ghost use Rattle.sheet.specs.Read.{read_sheet};
-ghost use Rattle.sheet.specs.declared.judge.Judged.TheVariants.{Sound};
+ghost use Rattle.std.specs.Prelude.{Ok};
 ghost use Rattle.note_frame.specs.Frame.{frame};
 ghost use Rattle.note_frame.specs.Frames.{frames_from, interleaved, sounding};
 ghost use Rattle.refusal.specs.Rules.{first_holding};
 ghost use Rattle.note_rules.specs.Rules.{fill_rules};
 ghost use Rattle.note_block.specs.Block.{BlockReady, BlockPlayed};
 
-use crate::stages::{attack_stage, is_there, release_stage};
+use crate::stages::{attack_stage, release_stage};
 use note_frame::{Gains, Key, Playing, gains_of};
 use note_path::{Path, path_of};
 use note_stage::play;
@@ -46,8 +46,7 @@ fn play_stage(
     let fade = l.fade;
     let attack = &sheet[attacks..releases];
     let segments = &sheet[sequence..fade];
-    let key = n.key;
-    match key {
+    match n.key {
         Key::Held => {
             let stage = attack_stage(attack, n.step, n.rate);
             play(g, path, stage, attack, segments, left, right, m, d, out)
@@ -70,13 +69,13 @@ pub fn sounding_block(
     right: &[i8],
     out: &mut [i16],
 ) -> usize
-    requires { (judged sheet.now ≡ Sound) × (l ≡ layout_of (read_sheet sheet.now)) × (first_holding (fill_rules (read_sheet sheet.now) (length left.now) (length right.now) n frames (length out.old)) ≡ 0) }
+    requires { (judged sheet.now ≡ Ok tt) × (l ≡ layout_of (read_sheet sheet.now)) × (first_holding (fill_rules (read_sheet sheet.now) (length left.now) (length right.now) n frames (length out.old)) ≡ Ok tt) }
     ensures { BlockPlayed n frames sheet.now left.now right.now (min (length out.old / 2) (4294967295 - frames)) out.old out.new result }
 {
     let start = l.sequence;
     let end = l.fade;
     let segments = &sheet[start..end];
-    let sequence = is_there(sheet_sequence(sheet, l));
+    let sequence = sheet_sequence(sheet, l).is_some();
     let path = path_of(
         sheet_header(sheet),
         n.octave,
@@ -100,7 +99,7 @@ pub fn next_block(
     right: &[i8],
     out: &mut [i16],
 ) -> usize
-    requires { (judged sheet.now ≡ Sound) × (l ≡ layout_of (read_sheet sheet.now)) × (first_holding (fill_rules (read_sheet sheet.now) (length left.now) (length right.now) n frames (length out.old)) ≡ 0) }
+    requires { (judged sheet.now ≡ Ok tt) × (l ≡ layout_of (read_sheet sheet.now)) × (first_holding (fill_rules (read_sheet sheet.now) (length left.now) (length right.now) n frames (length out.old)) ≡ Ok tt) }
     ensures result { result ≡ sounding (frames_from (frame (read_sheet sheet.now) (record { left = left.entry.now; right = right.now }) n) frames (length out.old / 2)) }
     ensures buffer { out.new ≡ interleaved (frames_from (frame (read_sheet sheet.now) (record { left = left.entry.now; right = right.now }) n) frames (length out.old / 2)) }
 {

@@ -5,10 +5,7 @@ ghost use Rattle.std.specs.Prelude.{◌≡◌, ◌++◌, ◌-◌, ◌≤◌, min
 pub fn least(a: usize, b: usize) -> usize
     ensures { result ≡ min a b }
 {
-    if a < b {
-        return a;
-    }
-    b
+    a.min(b)
 }
 
 // Zeros from a place on.
@@ -16,9 +13,5 @@ pub fn silence_from(out: &mut [i16], from: usize)
     requires { from ≤ length out.old }
     ensures { out.new ≡ take from out.old ++ replicate (length out.old - from) (pos 0) }
 {
-    let mut i = from;
-    while i < out.len() {
-        out[i] = 0;
-        i += 1;
-    }
+    out[from..].fill(0);
 }

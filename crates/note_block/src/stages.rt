@@ -2,30 +2,20 @@
 ghost use Rattle.std.specs.Prelude.{◌≡◌, ◌<◌, pos};
 ghost use Rattle.sheet_layout.specs.Members.{points_in, Whole};
 ghost use Rattle.note_frame.specs.Frame.{start_level};
-ghost use Rattle.note_block.specs.Stages.{is_there, attack_in, attack_stage, release_stage};
+ghost use Rattle.note_block.specs.Stages.{attack_in, attack_stage, release_stage};
 
 use note_envelope::cursor_at;
 use note_stage::Stage;
-use sheet_layout::{MaybeSequence, next_member};
-
-pub(crate) fn is_there(sequence: MaybeSequence) -> bool
-    ensures { result ≡ is_there sequence }
-{
-    match sequence {
-        MaybeSequence::Segments(_) => true,
-        MaybeSequence::NoSequence => false,
-    }
-}
+use sheet_layout::next_member;
 
 // The level that an attack begins at: full, if no point follows.
 fn start_level(attack: &[u8]) -> i32
     ensures { result ≡ start_level (points_in attack.now) }
 {
-    let first = next_member(attack, 0, 6);
-    if attack.len() <= first {
-        return 65536;
+    match next_member(attack, 0, 6) {
+        None => 65536,
+        Some(_) => 0,
     }
-    0
 }
 
 // The level of a held note at frame u.

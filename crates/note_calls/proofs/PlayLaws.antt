@@ -18,16 +18,16 @@ use lib.ListN.{length, set}
 use lib.Seq.{sets}
 use Rattle.laws.specs.Put.{Put}
 use Rattle.body_read.specs.Sides.{Sides}
-use Rattle.refusal.specs.Outcome.{Outcome, gives, refuses}
 use Rattle.note_frame.specs.declared.chain.Frame.{Frame}
 use Rattle.note_frame.specs.declared.playing.Playing.{Playing}
 use Rattle.note.specs.Fill.{fill_sheet, fill_leaves, after_fill}
 use Rattle.note.specs.Note.{key_up_of}
-use Rattle.note.specs.declared.Answer.{Answer}
 use Rattle.note.specs.declared.Note.{Note}
 use Rattle.note_calls.specs.Play.{HostCall, fill_buffer, key_up_now, accepted_block, play, last_note}
 use Rattle.note_calls.specs.Made.{key_up_number, is_key_up, host_calls, places_of, answers_of, answer_number}
 use Rattle.note_calls.proofs.PartLaws.{zeros, accepted_within, block_of, accepted_length}
+use Rattle.refusal.specs.Outcome.{Outcome}
+use Rattle.std.specs.Prelude.{Err, Ok}
 
 module _ (sheet : List ℕ) (s : Sides) (n : Note) where
   -- ---- a call and those past it
@@ -87,12 +87,12 @@ module _ (sheet : List ℕ) (s : Sides) (n : Note) where
       fill_note = rw (ne_eqb call key_up_number isn't)
 
       -- what a fill leaves, by its answer a
-      module _ (a : Answer) (a_is : a ≡ (after_fill sheet s n (zeros call)).answer) where
+      module _ (a : Outcome ℕ) (a_is : a ≡ (after_fill sheet s n (zeros call)).answer) where
         pub fill_put : (out out' : List ℤ) (at r : ℕ) → out' ≡ sets out at (accepted_block a (after_fill sheet s n (zeros call)).buffer)
             → r ≡ length (accepted_block a (zeros call)) → Put out at (play sheet s n (host_calls (call ∷ []))).blocks out' (at + r)
         fill_put out out' at r stored long = record {
-          is = stored ∙ ap (λ (x : Answer). sets out at (accepted_block x (after_fill sheet s n (zeros call)).buffer)) a_is ∙ ap (sets out at) (sym fill_blocks);
-          end = ap (λ (k : ℕ). at + k) (long ∙ ap (λ (x : Answer). length (accepted_block x (zeros call))) a_is ∙ sym (accepted_length sheet s n call) ∙ ap length (sym fill_blocks));
+          is = stored ∙ ap (λ (x : Outcome ℕ). sets out at (accepted_block x (after_fill sheet s n (zeros call)).buffer)) a_is ∙ ap (sets out at) (sym fill_blocks);
+          end = ap (λ (k : ℕ). at + k) (long ∙ ap (λ (x : Outcome ℕ). length (accepted_block x (zeros call))) a_is ∙ sym (accepted_length sheet s n call) ∙ ap length (sym fill_blocks));
         }
 
         pub answer_put : (answers : List ℕ) (count v : ℕ) → v ≡ answer_number a
@@ -120,8 +120,8 @@ module _ (sheet : List ℕ) (s : Sides) (n : Note) where
 
 -- a fill leaves how the note plays
 fill_plays : (o : Outcome (List Frame)) (n : Note) (buffer : List ℤ) → (fill_leaves o n buffer).note.playing ≡ n.playing
-fill_plays (gives block) n buffer = refl
-fill_plays (refuses number) n buffer = refl
+fill_plays (Ok block) n buffer = refl
+fill_plays (Err refusal) n buffer = refl
 
 pub velocity_stays : (sheet : List ℕ) (s : Sides) (n : Note) (calls : List HostCall) → (last_note sheet s n calls).playing.velocity ≡ n.playing.velocity
 unfolding last_note

@@ -1,14 +1,13 @@
 -- Calls in numbers, and what making them leaves.
-use Rattle.std.specs.Prelude.{ℕ, ◌+◌, Bool, cond, ◌&&◌, List, [], ◌∷◌, map, eqb, leb, ℤ, pos, length, replicate}
+use Rattle.std.specs.Prelude.{ℕ, ◌+◌, Bool, cond, ◌&&◌, List, [], ◌∷◌, map, eqb, leb, ℤ, pos, length, replicate, Err, Ok}
 use Rattle.laws.specs.Buffer.{written}
-use Rattle.refusal.specs.Numbers.{buffer_short}
 use Rattle.body_read.specs.Sides.{Sides}
-use Rattle.note.specs.declared.Answer.{Answer}
-use Rattle.note.specs.declared.Answer.TheVariants as answer
 use Rattle.note.specs.declared.Note.{Note}
 use Rattle.note_calls.specs.Play.{HostCall, fill_buffer, key_up_now, PutOut, play, last_note}
 use Rattle.note_calls.specs.declared.Made.{Made}
-use Rattle.note_calls.specs.declared.Made.TheVariants.{Calls, Refused}
+use Rattle.refusal.specs.declared.Refusal.TheVariants.{BufferShort}
+use Rattle.refusal.specs.Outcome.{Outcome}
+use Rattle.refusal.specs.Refusal.{number_of}
 
 -- the number that stands for a key-up
 abbrev pub key_up_number : ℕ
@@ -45,9 +44,9 @@ fills_in [] = 0
 fills_in (call ∷ calls) = answers_of call + fills_in calls
 
 -- an answer as a number: how many frames aren't over, or 2^63 and the refusal's number
-abbrev pub answer_number : Answer → ℕ
-answer_number (answer.Sounding count) = count
-answer_number (answer.Refused number) = 9223372036854775808 + number
+abbrev pub answer_number : Outcome ℕ → ℕ
+answer_number (Ok count) = count
+answer_number (Err refusal) = 9223372036854775808 + number_of refusal
 
 -- so many places hold the blocks of all fills, and so many their answers
 abbrev pub room_for : List ℕ → ℕ → ℕ → Bool
@@ -55,21 +54,21 @@ room_for calls places answers = leb (places_in calls) places && leb (fills_in ca
 
 -- what making the calls leaves: the note after them and how many values and answers were put out, or 20; and what both buffers then hold
 pub record MadeResult : Type 0 where
-  pub made : Made
+  pub made : Outcome Made
   pub blocks : List ℤ
   pub answers : List ℕ
 
 -- by what `play` puts out and the note after it
 abbrev pub calls_leave : PutOut → Note → List ℤ → List ℕ → MadeResult
 calls_leave p n blocks answers = record {
-  made = Calls n (length p.blocks) (length p.answers);
+  made = Ok (record { note = n; values = length p.blocks; answers = length p.answers });
   blocks = written p.blocks blocks;
   answers = written (map answer_number p.answers) answers;
 }
 
 -- where there is no room for all, nothing is written
 abbrev pub no_room : List ℤ → List ℕ → MadeResult
-no_room blocks answers = record { made = Refused buffer_short; blocks = blocks; answers = answers }
+no_room blocks answers = record { made = Err BufferShort; blocks = blocks; answers = answers }
 
 -- what `make_calls` leaves
 abbrev pub after_calls : List ℕ → Sides → Note → List ℕ → List ℤ → List ℕ → MadeResult

@@ -1,11 +1,10 @@
 -- A list of calls on a note, as a host makes them, and what they put out.
-use Rattle.std.specs.Prelude.{ℕ, List, [], ◌∷◌, ◌++◌, ℤ}
+use Rattle.std.specs.Prelude.{ℕ, List, [], ◌∷◌, ◌++◌, ℤ, Err, Ok}
 use Rattle.body_read.specs.Sides.{Sides}
 use Rattle.note.specs.Fill.{FillResult, after_fill}
 use Rattle.note.specs.Note.{key_up_of}
-use Rattle.note.specs.declared.Answer.{Answer}
-use Rattle.note.specs.declared.Answer.TheVariants.{Sounding, Refused}
 use Rattle.note.specs.declared.Note.{Note}
+use Rattle.refusal.specs.Outcome.{Outcome}
 
 -- a fill of a buffer, with what it held before, or a key-up
 pub data HostCall : Type 0 where
@@ -14,17 +13,17 @@ pub data HostCall : Type 0 where
 
 -- what a list of calls puts out: every fill's answer, and the accepted fills' blocks, joined
 pub record PutOut : Type 0 where
-  pub answers : List Answer
+  pub answers : List (Outcome ℕ)
   pub blocks : List ℤ
 
 -- an answer and a block before what follows
-abbrev pub before : Answer → List ℤ → PutOut → PutOut
+abbrev pub before : Outcome ℕ → List ℤ → PutOut → PutOut
 before answer block later = record { answers = answer ∷ later.answers; blocks = block ++ later.blocks }
 
 -- the block that a buffer holds after a fill with this answer; a refused fill has none
-abbrev pub accepted_block : Answer → List ℤ → List ℤ
-accepted_block (Sounding count) buffer = buffer
-accepted_block (Refused number) buffer = []
+abbrev pub accepted_block : Outcome ℕ → List ℤ → List ℤ
+accepted_block (Ok count) buffer = buffer
+accepted_block (Err refusal) buffer = []
 
 -- what a fill puts out, by what it leaves, before what follows
 abbrev pub then_fill : FillResult → PutOut → PutOut

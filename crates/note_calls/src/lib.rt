@@ -8,7 +8,8 @@ ghost use Rattle.note.specs.Fill.{after_fill};
 ghost use Rattle.note_calls.specs.Play.{accepted_block, play, last_note};
 ghost use Rattle.note_calls.specs.Made.{host_calls, places_of, answers_of, answer_number, room_for, calls_leave, after_calls};
 
-use note::{Answer, Filled, Note};
+use note::{Filled, Note};
+use refusal::Refusal;
 
 // The number that stands for a key-up among the calls; any other is a fill of so many places.
 pub const KEY_UP: u64 = 18446744073709551615;
@@ -16,11 +17,12 @@ pub const KEY_UP: u64 = 18446744073709551615;
 // What is added to a refusal's number among the answers.
 pub const REFUSED: u64 = 9223372036854775808;
 
+// The note after the calls, how many values were put out, and how many answers.
 #[derive(Clone, Copy)]
-pub enum Made {
-    // The note after the calls, how many values were put out, and how many answers.
-    Calls(Note, usize, usize),
-    Refused(u8),
+pub struct Made {
+    pub note: Note,
+    pub values: usize,
+    pub answers: usize,
 }
 
 // The note after some of the calls, and how many values and answers they put out.
@@ -32,12 +34,12 @@ struct Run {
 }
 
 // An answer as a number.
-fn answer_number(answer: Answer) -> u64
+fn answer_number(answer: Result<usize, Refusal>) -> u64
     ensures { result ≡ answer_number answer }
 {
     match answer {
-        Answer::Sounding(count) => count as u64,
-        Answer::Refused(number) => REFUSED + number as u64,
+        Ok(count) => count as u64,
+        Err(refusal) => REFUSED + refusal.number() as u64,
     }
 }
 
@@ -67,11 +69,9 @@ fn has_room(calls: &[u64], places: usize, answers: usize) -> bool
 {
     let mut places_left = places;
     let mut answers_left = answers;
-    let mut i = 0;
-    while i < calls.len() {
-        let call = calls[i];
-        let p = places_of(call);
-        let a = answers_of(call);
+    for call in calls {
+        let p = places_of(*call);
+        let a = answers_of(*call);
         if places_left < p {
             return false;
         }
@@ -80,7 +80,6 @@ fn has_room(calls: &[u64], places: usize, answers: usize) -> bool
         }
         places_left -= p;
         answers_left -= a;
-        i += 1;
     }
     true
 }
@@ -105,13 +104,10 @@ fn fill_part(
 }
 
 // How many values an accepted block of so many places puts out; a refused fill none.
-fn put_out(answer: Answer, places: usize) -> usize
+fn put_out(answer: Result<usize, Refusal>, places: usize) -> usize
     ensures { result ≡ length (accepted_block answer (replicate places (pos 0))) }
 {
-    match answer {
-        Answer::Sounding(_) => places,
-        Answer::Refused(_) => 0,
-    }
+    if answer.is_ok() { places } else { 0 }
 }
 
 // One call: its block, if it is accepted, stands at the place past the blocks before it, and its answer past theirs.
@@ -159,7 +155,7 @@ fn run_calls(
     calls: &[u64],
     out: &mut [i16],
     answers: &mut [u64],
-) -> Made
+) -> Result<Made, Refusal>
     requires { room_for calls.now (length out.old) (length answers.old) ≡ true }
     ensures made { result ≡ (calls_leave (play sheet.now (record { left = left.entry.now; right = right.now }) note (host_calls calls.now)) (last_note sheet.now (record { left = left.entry.now; right = right.now }) note (host_calls calls.now)) out.old answers.old).made }
     ensures blocks { out.new ≡ (calls_leave (play sheet.now (record { left = left.entry.now; right = right.now }) note (host_calls calls.now)) (last_note sheet.now (record { left = left.entry.now; right = right.now }) note (host_calls calls.now)) out.old answers.old).blocks }
@@ -170,14 +166,14 @@ fn run_calls(
         at: 0,
         count: 0,
     };
-    let mut i: usize = 0;
-    while i < calls.len() {
-        let call = calls[i];
-        run = one_call(run, call, sheet, left, right, out, answers);
-        i += 1;
+    for call in calls {
+        run = one_call(run, *call, sheet, left, right, out, answers);
     }
-    let last = run.note;
-    Made::Calls(last, run.at, run.count)
+    Ok(Made {
+        note: run.note,
+        values: run.at,
+        answers: run.count,
+    })
 }
 
 // Makes the calls, each a number of places to fill or KEY_UP: the accepted blocks stand one after another at the front of `out`, and the
@@ -191,13 +187,13 @@ pub fn make_calls(
     calls: &[u64],
     out: &mut [i16],
     answers: &mut [u64],
-) -> Made
+) -> Result<Made, Refusal>
     ensures made { result ≡ (after_calls sheet.now (record { left = left.entry.now; right = right.now }) note calls.now out.old answers.old).made }
     ensures blocks { out.new ≡ (after_calls sheet.now (record { left = left.entry.now; right = right.now }) note calls.now out.old answers.old).blocks }
     ensures answers { answers.new ≡ (after_calls sheet.now (record { left = left.entry.now; right = right.now }) note calls.now out.old answers.old).answers }
 {
     if !has_room(calls, out.len(), answers.len()) {
-        return Made::Refused(refusal::BUFFER_SHORT);
+        return Err(Refusal::BufferShort);
     }
     run_calls(note, sheet, left, right, calls, out, answers)
 }

@@ -39,21 +39,9 @@ pub fn tick(c: Clock) -> Clock
     let gap = c.rate - c.part;
     if c.rem < gap {
         let rem = c.rem + c.part;
-        return Clock {
-            rate: c.rate,
-            whole: c.whole,
-            part: c.part,
-            ms,
-            rem,
-        };
+        return Clock { ms, rem, ..c };
     }
     let next = ms + 1;
     let rem = c.rem - gap;
-    Clock {
-        rate: c.rate,
-        whole: c.whole,
-        part: c.part,
-        ms: next,
-        rem,
-    }
+    Clock { ms: next, rem, ..c }
 }

@@ -10,7 +10,7 @@ use Prim.Native.Nat.{ℕ, ◌+◌, ◌-◌, ◌≤◌, ◌<◌}
 use borrow.Author.Tests.{le-leb, lt-leb}
 use lib.Dec.{leb}
 use lib.IntN.{ℤ}
-use lib.ListN.{length, get_or, drop}
+use lib.ListN.{length, drop}
 use mathlib.Core.Bool.{Bool, true, false}
 use mathlib.Core.List.{List}
 use mathlib.Core.Path.{◌≡◌, refl, sym, ap, subst, ◌∙◌}
@@ -26,111 +26,99 @@ use Rattle.small_chunks.specs.declared.points.EgPoint.{EgPoint}
 use Rattle.small_chunks.proofs.PanLaws.{held_le}
 use Rattle.sheet.specs.Allowed.{All}
 use Rattle.sheet_layout.specs.Members.{Whole, points_in, next_member}
-use Rattle.sheet_layout.proofs.NextLaws.{next_within, next_stands, next_same, member_long, member_whole}
+use Rattle.sheet_layout.proofs.NextLaws.{member_after, member_same, member_long, member_whole}
 use Rattle.note_envelope.specs.Cursor.{level_from, end_from, curve, Ready, Moved, Stood, Follows}
 use Rattle.note_envelope.specs.declared.EnvelopeCursor.{EnvelopeCursor}
-use Rattle.note_envelope.proofs.PointLaws.{level_front, end_front, level_next, end_next, level_pass, end_pass, level_way, end_way, level_rest, end_rest}
+use Rattle.note_envelope.proofs.PointLaws.{level_front, end_front, level_same, end_same, level_pass, end_pass, level_way, end_way, level_rest, end_rest}
+use Rattle.std.specs.Prelude.{None, Some}
 
 -- ---- the loop that passes points
 
--- a place at a point or at the end
-pub record Place (part : List ℕ) (at : ℕ) : Type 0 where
-  pub inside : at ≤ length part
-  pub stands : at < length part → get_or part at 0 ≡ 6
-  pub whole : Whole 6 6 (drop at part)
-
 -- points have been passed from `at₀` on, and from t on the levels are the same
 pub record Passed (part : List ℕ) (t at₀ before₀ : ℕ) (level₀ : ℤ) (at before : ℕ) (level : ℤ) : Type 0 where
-  pub place : Place part at
+  pub inside : at ≤ length part
+  pub whole : Whole 6 6 (drop at part)
   pub passed : before ≤ t
   pub end_is : end_from part at before ≡ end_from part at₀ before₀
   pub later : (s : ℕ) → t ≤ s → level_from part at before level s ≡ level_from part at₀ before₀ level₀ s
 
--- the next member from a place on
-next_place : (part : List ℕ) (at next : ℕ) → next ≡ next_member 6 at part → at ≤ length part → Whole 6 6 (drop at part) → Place part next
-next_place part at next is inside whole =
-    rw is
-    (record {
-      inside = next_within 6 part at inside;
-      stands = next_stands 6 part at;
-      whole = subst (All (λ body. length body ≡ 6)) (sym (next_same 6 part at 6)) whole;
-    })
-
 -- no point yet
-pub passed_none : (part : List ℕ) (e : EnvelopeCursor) (t at : ℕ) (level : ℤ) → Ready part e t → at ≡ next_member 6 e.at part → Passed part t at e.before level at e.before level
-passed_none part e t at level ready is =
-    record {
-      place = next_place part e.at at is ready.inside ready.whole;
-      passed = ready.passed;
-      end_is = refl;
-      later = λ s h. refl;
-    }
+pub passed_none : (part : List ℕ) (e : EnvelopeCursor) (t : ℕ) (level : ℤ) → Ready part e t → Passed part t e.at e.before level e.at e.before level
+passed_none part e t level ready = record { inside = ready.inside; whole = ready.whole; passed = ready.passed; end_is = refl; later = λ s h. refl }
 
-module _ {part : List ℕ} {t at₀ before₀ : ℕ} {level₀ : ℤ} {at before : ℕ} {level : ℤ} (p : Passed part t at₀ before₀ level₀ at before level) where
+module _ {part : List ℕ} {t at₀ before₀ : ℕ} {level₀ : ℤ} {at before : ℕ} {level : ℤ} (p : Passed part t at₀ before₀ level₀ at before level)
+    {place : ℕ} (here : next_member 6 at part ≡ Some place) where
   -- the bytes of the point in hand
-  pub point_long : at < length part → at + 7 ≤ length part
-  point_long here = member_long 6 6 part at here (p.place.stands here) p.place.whole
+  pub point_long : place + 7 ≤ length part
+  point_long = member_long 6 6 part at here p.whole
+
+  pub point_after : at ≤ place
+  point_after = member_after 6 6 part at here
+
+  -- the bytes before it passed
+  pub passed_openers : Passed part t at₀ before₀ level₀ place before level
+  passed_openers =
+      record {
+        inside = omega (arith, point_long);
+        whole = subst (All (λ body. length body ≡ 6)) (sym (member_same 6 6 part at here)) p.whole;
+        passed = p.passed;
+        end_is = end_same part at before here ∙ p.end_is;
+        later = λ s h. level_same part at before here level s ∙ p.later s h;
+      }
 
   -- one point more
-  pub passed_more : (point : EgPoint) (dest : ℤ) (next : ℕ) → at < length part → point ≡ point_of (drop (at + 1) part) → dest ≡ point.dest
-      → point.duration_ms ≤ t - before → next ≡ next_member 6 (at + 7) part
-      → Passed part t at₀ before₀ level₀ next (before + point.duration_ms) dest
-  passed_more point dest next here read d ended is =
+  pub passed_more : (point : EgPoint) (dest : ℤ) → point ≡ point_of (drop (place + 1) part) → dest ≡ point.dest → point.duration_ms ≤ t - before
+      → Passed part t at₀ before₀ level₀ (place + 7) (before + point.duration_ms) dest
+  passed_more point dest read d ended =
       let k = p.passed in
-      let stands = p.place.stands here in
-      let after = before + point.duration_ms in
       record {
-        place = next_place part (at + 7) next is (point_long here) (member_whole 6 6 part at here stands p.place.whole);
+        inside = point_long;
+        whole = member_whole 6 6 part at here p.whole;
         passed = omega arith;
-        end_is = rw is (end_next part (at + 7) after ∙ sym (end_pass part at before point here stands read) ∙ p.end_is);
-        later = λ s h.
-            rw (is, d)
-            (level_next part (at + 7) after point.dest s
-            ∙ sym (level_pass part at before point here stands read level s (omega arith))
-            ∙ p.later s h);
+        end_is = sym (end_pass part at before here point read) ∙ p.end_is;
+        later = λ s h. rw d (sym (level_pass part at before here point read level s (omega arith)) ∙ p.later s h);
       }
 
 -- what a loop that stops at a place hands back
-module _ (part : List ℕ) (e : EnvelopeCursor) (t at₀ at before : ℕ) (level : ℤ) (now : ℕ) (fits : SFits w32 e.level)
-    (from : at₀ ≡ next_member 6 e.at part) (p : Passed part t at₀ e.before (to_z w32 (of_z w32 e.level)) at before level) where
-  level_later : (s : ℕ) → t ≤ s → level_from part at before level s ≡ level_from part e.at e.before e.level s
-  level_later s h = rw (to_z-of_z fits, from) at (p.later s h) ∙ level_next part e.at e.before e.level s
-
+module _ (part : List ℕ) (e : EnvelopeCursor) (t at before : ℕ) (level : ℤ) (now : ℕ) (fits : SFits w32 e.level)
+    (p : Passed part t e.at e.before (to_z w32 (of_z w32 e.level)) at before level) where
   stopped : (ended : Bool) (until : ℕ) → t < until → ((s : ℕ) → t ≤ s → s < until → now ≡ held_to_unity (level_from part at before level s))
       → ((s : ℕ) → t ≤ s → s < until → ended ≡ leb (end_from part at before) s)
       → Moved part e t (record { at = at; before = before; level = level; now = now; ended = ended; until = until })
   stopped ended until till n d =
-      let end_is : end_from part at before ≡ end_from part e.at e.before = rw from at p.end_is ∙ end_next part e.at e.before in
+      let later = rw (to_z-of_z fits) at p.later in
       record {
-        ready = record { inside = p.place.inside; whole = p.place.whole; passed = p.passed };
+        ready = record { inside = p.inside; whole = p.whole; passed = p.passed };
         till = till;
-        now_is = λ s h g. n s h g ∙ ap held_to_unity (level_later s h);
-        ended_is = λ s h g. d s h g ∙ ap (λ (x : ℕ). leb x s) end_is;
-        end_is = end_is;
-        later = level_later;
+        now_is = λ s h g. n s h g ∙ ap held_to_unity (later s h);
+        ended_is = λ s h g. d s h g ∙ ap (λ (x : ℕ). leb x s) p.end_is;
+        end_is = p.end_is;
+        later = later;
       }
 
-  -- what is so of t alone
-  at_once : (P : ℕ → Type 0) → P t → (s : ℕ) → t ≤ s → s < t + 1 → P s
-  at_once P h s a b = let e : t ≡ s = omega arith in subst P e h
-
-  -- on the way
-  pub stopped_way : (point : EgPoint) (dest : ℤ) → at < length part → point ≡ point_of (drop (at + 1) part) → dest ≡ point.dest
-      → t - before < point.duration_ms → now ≡ held_to_unity (on_the_way level dest (t - before) point.duration_ms)
-      → Moved part e t (record { at = at; before = before; level = level; now = now; ended = false; until = t + 1 })
-  stopped_way point dest here read d h n =
-      let stands = p.place.stands here in
-      stopped false (t + 1) (omega arith)
-      (at_once (λ s. now ≡ held_to_unity (level_from part at before level s)) (n ∙ rw (d, level_way part at before point here stands read level t h)))
-      (at_once (λ s. false ≡ leb (end_from part at before) s) (sym (lt-leb (end_from part at before) t (omega (arith, end_way part at before point here stands read)))))
-
   -- past every point, for ever
-  pub stopped_rest : (until : ℕ) → t < until → length part ≤ at → now ≡ held_to_unity level → Moved part e t (record { at = at; before = before; level = level; now = now; ended = true; until = until })
+  pub stopped_rest : (until : ℕ) → t < until → next_member 6 at part ≡ None → now ≡ held_to_unity level → Moved part e t (record { at = at; before = before; level = level; now = now; ended = true; until = until })
   stopped_rest until till past n =
       let k = p.passed in
       stopped true until till
       (λ s h g. n ∙ rw (level_rest part at before past level s))
       (λ s h g. sym (le-leb (end_from part at before) s (omega (arith, end_rest part at before past))))
+
+-- what is so of t alone
+at_once : (t : ℕ) (P : ℕ → Type 0) → P t → (s : ℕ) → t ≤ s → s < t + 1 → P s
+at_once t P h s a b = let e : t ≡ s = omega arith in subst P e h
+
+-- on the way
+pub stopped_way : (part : List ℕ) (e : EnvelopeCursor) (t at before : ℕ) (level : ℤ) (now : ℕ) → SFits w32 e.level
+    → Passed part t e.at e.before (to_z w32 (of_z w32 e.level)) at before level
+    → {place : ℕ} → next_member 6 at part ≡ Some place
+    → (point : EgPoint) (dest : ℤ) → point ≡ point_of (drop (place + 1) part) → dest ≡ point.dest
+    → t - before < point.duration_ms → now ≡ held_to_unity (on_the_way level dest (t - before) point.duration_ms)
+    → Moved part e t (record { at = place; before = before; level = level; now = now; ended = false; until = t + 1 })
+stopped_way part e t at before level now fits p {place} here point dest read d h n =
+    stopped part e t place before level now fits (passed_openers p here) false (t + 1) (omega arith)
+    (at_once t (λ s. now ≡ held_to_unity (level_from part place before level s)) (n ∙ rw (d, level_same part at before here level t, level_way part at before here point read level t h)))
+    (at_once t (λ s. false ≡ leb (end_from part place before) s) (rw (end_same part at before here) (sym (lt-leb (end_from part at before) t (omega (arith, end_way part at before here point read))))))
 
 -- ---- a cursor on an envelope
 

@@ -10,10 +10,10 @@ use sheet_layout::next_member;
 use small_chunks::{held_to_unity, read_point};
 
 // Past every time that is asked for.
-const NEVER: usize = 18446744073709551615;
+const NEVER: usize = usize::MAX;
 
-// The point in hand lies at `at`, and begins `before` milliseconds from the start at `level`. `now` is the level, held within 0..65,536,
-// and `ended` says that no point is left; both are so from the time that was asked for up to `until`.
+// The point in hand is the first from `at` on, and begins `before` milliseconds from the start at `level`. `now` is the level, held within
+// 0..65,536, and `ended` says that no point is left; both are so from the time that was asked for up to `until`.
 #[derive(Clone, Copy)]
 pub struct EnvelopeCursor {
     pub at: usize,
@@ -25,22 +25,23 @@ pub struct EnvelopeCursor {
 }
 
 // The cursor moved to t, which is no earlier than the point in hand.
+// No iterator of its own: it would be that of the path's segments over again, for this loop alone.
 fn seek(part: &[u8], e: EnvelopeCursor, t: usize) -> EnvelopeCursor
     requires { Ready part.now e t × (t < 2 ^ 62) }
     ensures { Moved part.now e t result }
 {
+    let mut at = e.at;
     let mut before = e.before;
     let mut level = e.level;
-    let mut at = next_member(part, e.at, 6);
-    while at < part.len() {
-        let body = at + 1;
+    while let Some(place) = next_member(part, at, 6) {
+        let body = place + 1;
         let p = read_point(part, body);
         let into = t - before;
         let duration = p.duration_ms as usize;
         if into < duration {
             let until = t + 1;
             return EnvelopeCursor {
-                at,
+                at: place,
                 before,
                 level,
                 now: held_to_unity(on_the_way(level, p.dest, into as u16, p.duration_ms)),
@@ -48,10 +49,9 @@ fn seek(part: &[u8], e: EnvelopeCursor, t: usize) -> EnvelopeCursor
                 until,
             };
         }
-        level = p.dest;
+        at = place + 7;
         before += duration;
-        let next = at + 7;
-        at = next_member(part, next, 6);
+        level = p.dest;
     }
     EnvelopeCursor {
         at,

@@ -2,7 +2,6 @@
 -- Assumes nothing.
 use mathlib.Core.Bool.{Bool, true, false, cond}
 use mathlib.Core.List.{List}
-use mathlib.Core.Option.{Option, none, some}
 use mathlib.Core.Path.{◌≡◌, refl}
 use Prim.Native.Nat.{ℕ, ◌-◌, ◌≤◌}
 use native.Mathlib.Omega.{arith}
@@ -18,6 +17,7 @@ use Rattle.envelope.proofs.ScaleLaws.{scaled_fits}
 use Rattle.note_frame.specs.declared.chain.Gains.{Gains}
 use Rattle.note_frame.specs.Frame.{silent}
 use Rattle.note_frame.specs.Gains.{faded_with, before_sides, value_with, frame_with}
+use Rattle.std.specs.Prelude.{None, Option, Some}
 
 -- ---- a value stays a 16-bit one
 
@@ -50,15 +50,15 @@ unfolding value_with
 value_is g level q s share e f = rw (f, e)
 
 module _ (g : Gains) (left right : List ℤ) (q : ℕ) where
-  pub no_place : (level : Option ℕ) → frame_with g left right q none level ≡ silent
+  pub no_place : (level : Option ℕ) → frame_with g left right q None level ≡ silent
   unfolding frame_with
   no_place level = refl
 
-  pub no_level : (i : ℕ) → frame_with g left right q (some i) none ≡ silent
+  pub no_level : (i : ℕ) → frame_with g left right q (Some i) None ≡ silent
   unfolding frame_with
   no_level i = refl
 
-  pub not_over : (i level : ℕ) → (frame_with g left right q (some i) (some level)).sounds ≡ true
+  pub not_over : (i level : ℕ) → (frame_with g left right q (Some i) (Some level)).sounds ≡ true
   unfolding frame_with
   not_over i level = refl
 
@@ -66,6 +66,6 @@ module _ (g : Gains) (left right : List ℤ) (q : ℕ) where
   pub sounding : (i level : ℕ) (second : List ℤ) → cond g.stereo right left ≡ second → (a b : ℤ)
       → a ≡ value_with g level q (get_or left i (pos 0)) g.left_share
       → b ≡ value_with g level q (get_or second i (pos 0)) g.right_share
-      → record { left = a; right = b; sounds = true } ≡ frame_with g left right q (some i) (some level)
+      → record { left = a; right = b; sounds = true } ≡ frame_with g left right q (Some i) (Some level)
   unfolding frame_with
   sounding i level second s a b x y = rw (s, x, y)

@@ -3,7 +3,6 @@
 use Prim.Native.Nat.{ℕ}
 use mathlib.Core.Bool.{Bool, true, false}
 use mathlib.Core.List.{[], ◌∷◌}
-use mathlib.Core.Option.{Option, none, some}
 use mathlib.Core.Path.{◌≡◌, refl}
 use lib.IntN.{ℤ, pos, negsuc}
 use Rattle.small_chunks.specs.Pan.{held_to_unity}
@@ -14,6 +13,7 @@ use Rattle.note_frame.specs.declared.chain.Gains.{Gains}
 use Rattle.note_frame.specs.Gains.{faded_with, before_sides, value_with, frame_with}
 use Rattle.note_frame.specs.Shares.{shares_of}
 use Rattle.note_frame.specs.declared.shares.Shares.{Shares}
+use Rattle.std.specs.Prelude.{None, Option, Some}
 
 -- a volume and a velocity with full shares, one channel; with a fade, it goes from step 2 to step 6
 abbrev pub gained : ℕ → ℕ → Bool → Gains
@@ -75,7 +75,7 @@ unfolding value_with before_sides faded_with scaled_by
 before_fade = refl
 
 -- 1 × 126 / 127 is cut to 0, on both sides of a frame that isn't over
-pub cut_to_0 : frame_with (gained 65536 126 false) (pos 1 ∷ []) [] 0 (some 0) (some 256) ≡ record { left = pos 0; right = pos 0; sounds = true }
+pub cut_to_0 : frame_with (gained 65536 126 false) (pos 1 ∷ []) [] 0 (Some 0) (Some 256) ≡ record { left = pos 0; right = pos 0; sounds = true }
 unfolding frame_with value_with before_sides faded_with scaled_by
 cut_to_0 = refl
 
@@ -83,7 +83,7 @@ cut_to_0 = refl
 
 -- a pan at a position
 abbrev pub at : ℤ → Option Pan
-at z = some (record { position = z })
+at z = Some (record { position = z })
 
 -- the shares of a voice, left and right
 abbrev pub sides : ℕ → ℕ → Shares
@@ -92,20 +92,20 @@ sides l r = record { left = l; right = r }
 -- with CHAN 2 all but a pan of 65,536 or more changes them, and with CHAN 4 all but one of 0 or less; CHAN 6 has both in full with any;
 -- without a CHAN the pan decides; without a pan the CHAN does
 pub record Table : Type 0 where
-  pub left_at_65536 : shares_of (some Left) (at (pos 65536)) ≡ sides 65536 0
-  pub left_past_it : shares_of (some Left) (at (pos 70000)) ≡ sides 65536 0
-  pub left_below_it : shares_of (some Left) (at (pos 65535)) ≡ sides 65535 1
-  pub left_at_0 : shares_of (some Left) (at (pos 0)) ≡ sides 0 65536
-  pub right_at_0 : shares_of (some Right) (at (pos 0)) ≡ sides 0 65536
-  pub right_below_0 : shares_of (some Right) (at (negsuc 0)) ≡ sides 0 65536
-  pub right_above_0 : shares_of (some Right) (at (pos 1)) ≡ sides 1 65535
-  pub right_at_65536 : shares_of (some Right) (at (pos 65536)) ≡ sides 65536 0
-  pub two_at_0 : shares_of (some Stereo) (at (pos 0)) ≡ sides 65536 65536
-  pub none_at_16384 : shares_of none (at (pos 16384)) ≡ sides 16384 49152
-  pub left_unpanned : shares_of (some Left) none ≡ sides 65536 0
-  pub right_unpanned : shares_of (some Right) none ≡ sides 0 65536
-  pub two_unpanned : shares_of (some Stereo) none ≡ sides 65536 65536
-  pub neither : shares_of none none ≡ sides 65536 65536
+  pub left_at_65536 : shares_of (Some Left) (at (pos 65536)) ≡ sides 65536 0
+  pub left_past_it : shares_of (Some Left) (at (pos 70000)) ≡ sides 65536 0
+  pub left_below_it : shares_of (Some Left) (at (pos 65535)) ≡ sides 65535 1
+  pub left_at_0 : shares_of (Some Left) (at (pos 0)) ≡ sides 0 65536
+  pub right_at_0 : shares_of (Some Right) (at (pos 0)) ≡ sides 0 65536
+  pub right_below_0 : shares_of (Some Right) (at (negsuc 0)) ≡ sides 0 65536
+  pub right_above_0 : shares_of (Some Right) (at (pos 1)) ≡ sides 1 65535
+  pub right_at_65536 : shares_of (Some Right) (at (pos 65536)) ≡ sides 65536 0
+  pub two_at_0 : shares_of (Some Stereo) (at (pos 0)) ≡ sides 65536 65536
+  pub none_at_16384 : shares_of None (at (pos 16384)) ≡ sides 16384 49152
+  pub left_unpanned : shares_of (Some Left) None ≡ sides 65536 0
+  pub right_unpanned : shares_of (Some Right) None ≡ sides 0 65536
+  pub two_unpanned : shares_of (Some Stereo) None ≡ sides 65536 65536
+  pub neither : shares_of None None ≡ sides 65536 65536
 
 pub table : Table
 unfolding shares_of held_to_unity

@@ -8,7 +8,6 @@
 -- Assumes nothing.
 use Prim.Native.Nat.{ℕ, ◌+◌, ◌≤◌, ◌<◌, min}
 use mathlib.Core.Bool.{Bool, true, false, cond}
-use mathlib.Core.Option.{Option, none, some}
 use mathlib.Core.Path.{◌≡◌, refl, sym, ◌∙◌}
 use native.Mathlib.Omega.{arith}
 use borrow.Author.Tests.{lt-leb, le-leb, lt-ltb, le-ltb, leb-true, leb-false}
@@ -28,6 +27,7 @@ use Rattle.note_frame.specs.declared.playing.Key.TheVariants.{Held, Released}
 use Rattle.note_frame.specs.Frame.{step_of, ms_since, start_level, attack_level, release_level, level_of, silent, with_key, Chain, frame_at, frame_by, frame}
 use Rattle.note_frame.specs.declared.playing.Playing.{Playing}
 use Rattle.note_frame.proofs.GainsLaws.{frame_gains}
+use Rattle.std.specs.Prelude.{None, Option, Some}
 
 -- ---- the level
 
@@ -36,14 +36,14 @@ module _ (v : Voice) (rate : ℕ) where
   unfolding attack_level
   attack_is p = refl
 
-  pub level_held : (p : ℕ) → level_of v rate Held p ≡ some (attack_level v rate p)
+  pub level_held : (p : ℕ) → level_of v rate Held p ≡ Some (attack_level v rate p)
   unfolding level_of
   level_held p = refl
 
   pub level_released : (u p : ℕ) → u ≤ p →
       let points = joined v.releases in
       let ms = ms_since rate u p in
-      level_of v rate (Released u) p ≡ cond (leb (total_duration points) ms) none (some (held_to_unity (level_at points (pos (attack_level v rate u)) ms)))
+      level_of v rate (Released u) p ≡ cond (leb (total_duration points) ms) None (Some (held_to_unity (level_at points (pos (attack_level v rate u)) ms)))
   unfolding level_of release_level
   level_released u p h = rw (le-leb u p h)
 
@@ -56,7 +56,7 @@ placed v s n p = path_of v.sequence v.header (length s.left) n.octave (step_of n
 -- two voices in which it lies at the same place, at the same level, have frames that are over together
 module _ (v w : Voice) (s : Sides) (c d : Chain) (n : Playing) (p : ℕ) (P : Frame → Frame → Type 0) where
   pub both_frames : placed v s n p ≡ placed w s n p → level_of v n.rate n.key p ≡ level_of w n.rate n.key p → P silent silent
-      → ((q i level : ℕ) → P (frame_at v s c q (some i) (some level)) (frame_at w s d q (some i) (some level)))
+      → ((q i level : ℕ) → P (frame_at v s c q (Some i) (Some level)) (frame_at w s d q (Some i) (Some level)))
       → P (frame_by v s c n p) (frame_by w s d n p)
   unfolding frame_by frame_at
   both_frames e e₂ over sounds = rw (e, e₂) (go (ltb p 4294967295) (placed w s n p) (level_of w n.rate n.key p))
@@ -65,9 +65,9 @@ module _ (v w : Voice) (s : Sides) (c d : Chain) (n : Playing) (p : ℕ) (P : Fr
       q = step_of n.step p
 
       go : (t : Bool) (place level : Option ℕ) → P (cond t (frame_at v s c q place level) silent) (cond t (frame_at w s d q place level) silent)
-      go true (some i) (some level) = sounds q i level
-      go true (some i) none = over
-      go true none level = over
+      go true (Some i) (Some level) = sounds q i level
+      go true (Some i) None = over
+      go true None level = over
       go false place level = over
 
 -- ---- the frame

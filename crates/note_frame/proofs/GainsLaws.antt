@@ -12,7 +12,6 @@
 use Prim.Native.Nat.{ℕ, ◌*◌, ◌≤◌, ◌<◌, ◌^◌, min}
 use mathlib.Core.Bool.{Bool, true, false}
 use mathlib.Core.List.{List}
-use mathlib.Core.Option.{Option, none, some}
 use mathlib.Core.Path.{◌≡◌, refl, sym, ap, ◌∙◌}
 use native.Mathlib.Nat.{mul-le-mul_left}
 use native.Mathlib.Omega.{arith}
@@ -21,8 +20,6 @@ use lib.Pow.{pow_pos}
 use Rattle.laws.proofs.Cases.{impossible}
 use Rattle.small_chunks.specs.declared.sequence.Fade.{Fade}
 use Rattle.small_chunks.specs.declared.sequence.SeqnSegment.{SeqnSegment}
-use Rattle.sheet_layout.specs.Answers.{fade_answer}
-use Rattle.sheet_layout.specs.declared.MaybeFade.TheVariants.{Fades, NoFade}
 use Rattle.body_read.specs.Sides.{Sides}
 use Rattle.sheet.specs.Voice.{Voice, is_stereo}
 use Rattle.note_path.specs.Path.{joined_length}
@@ -33,35 +30,36 @@ use Rattle.note_frame.specs.Shares.{shares_of}
 use Rattle.note_frame.specs.declared.shares.Shares.{Shares}
 use Rattle.note_frame.specs.Gains.{unfaded, with_fade, faded_by, gains_of, faded_with, before_sides, value_with, frame_with, Bounded, FadeOn, FadeShort}
 use Rattle.note_frame.proofs.SharesLaws.{shares_held}
+use Rattle.std.specs.Prelude.{None, Option, Some}
 
 -- ---- by what the voice has
 
-pub gains_unfaded : (v : Voice) (k velocity : ℕ) → v.fade ≡ none → gains_of v k velocity ≡ unfaded v velocity
+pub gains_unfaded : (v : Voice) (k velocity : ℕ) → v.fade ≡ None → gains_of v k velocity ≡ unfaded v velocity
 unfolding gains_of
 gains_unfaded v k velocity e = ap (λ (o : Option Fade). faded_by (unfaded v velocity) o v.sequence k) e
 
-pub gains_faded : (v : Voice) (k velocity : ℕ) (f : Fade) (segments : List SeqnSegment) → v.fade ≡ some f → v.sequence ≡ some segments
+pub gains_faded : (v : Voice) (k velocity : ℕ) (f : Fade) (segments : List SeqnSegment) → v.fade ≡ Some f → v.sequence ≡ Some segments
     → gains_of v k velocity ≡ with_fade (unfaded v velocity) f segments k
 unfolding gains_of
 gains_faded v k velocity f segments e e₂ =
     let g = unfaded v velocity in
-    ap (λ (o : Option Fade). faded_by g o v.sequence k) e ∙ ap (λ (o : Option (List SeqnSegment)). faded_by g (some f) o k) e₂
+    ap (λ (o : Option Fade). faded_by g o v.sequence k) e ∙ ap (λ (o : Option (List SeqnSegment)). faded_by g (Some f) o k) e₂
 
 -- where the sheet answers with a fade, the voice has it, and where it answers with none, the voice has none
 module _ (o : Option Fade) where
-  pub fade_there : (f : Fade) → fade_answer o ≡ Fades f → o ≡ some f
+  pub fade_there : (f : Fade) → o ≡ Some f → o ≡ Some f
   fade_there f = go o
     where
-      go : (o : Option Fade) → fade_answer o ≡ Fades f → o ≡ some f
-      go (some g) e = cc
-      go none e = impossible cc
+      go : (o : Option Fade) → o ≡ Some f → o ≡ Some f
+      go (Some g) e = cc
+      go None e = impossible cc
 
-  pub no_fade : fade_answer o ≡ NoFade → o ≡ none
+  pub no_fade : o ≡ None → o ≡ None
   no_fade = go o
     where
-      go : (o : Option Fade) → fade_answer o ≡ NoFade → o ≡ none
-      go (some g) e = impossible cc
-      go none e = refl
+      go : (o : Option Fade) → o ≡ None → o ≡ None
+      go (Some g) e = impossible cc
+      go None e = refl
 
 -- volume, velocity and shares as the code puts them together
 pub unfaded_is : (v : Voice) (volume velocity : ℕ) (shares : Shares) (stereo : Bool)
@@ -103,9 +101,9 @@ module _ (v : Voice) (k velocity : ℕ) where
   but_fade = go v.fade v.sequence
     where
       go : (fade : Option Fade) (sequence : Option (List SeqnSegment)) → SameButFade (faded_by (unfaded v velocity) fade sequence k) (unfaded v velocity)
-      go (some f) (some segments) = record { same_volume = refl; same_velocity = refl; same_left = refl; same_right = refl; same_stereo = refl }
-      go (some f) none = same_itself (unfaded v velocity)
-      go none sequence = same_itself (unfaded v velocity)
+      go (Some f) (Some segments) = record { same_volume = refl; same_velocity = refl; same_left = refl; same_right = refl; same_stereo = refl }
+      go (Some f) None = same_itself (unfaded v velocity)
+      go None sequence = same_itself (unfaded v velocity)
 
   pub gains_bounded : velocity ≤ 127 → Bounded here
   gains_bounded h =
@@ -128,9 +126,9 @@ module _ (v : Voice) (k velocity : ℕ) where
   faded_gains q x = go v.fade v.sequence
     where
       go : (fade : Option Fade) (sequence : Option (List SeqnSegment)) → faded_with (faded_by (unfaded v velocity) fade sequence k) q x ≡ faded_in fade sequence k q x
-      go (some f) (some segments) = refl
-      go (some f) none = refl
-      go none sequence = refl
+      go (Some f) (Some segments) = refl
+      go (Some f) None = refl
+      go None sequence = refl
 
   value_gains : (q level : ℕ) (x : ℤ) (share : ℕ) → value_with here level q x share ≡ value v k velocity q level x share
   unfolding value_with before_sides value
@@ -138,40 +136,40 @@ module _ (v : Voice) (k velocity : ℕ) where
 
   pub frame_gains : (s : Sides) (q : ℕ) (place level : Option ℕ) → frame_with here s.left s.right q place level ≡ frame_at v s (value v k velocity) q place level
   unfolding frame_with frame_at
-  frame_gains s q (some i) (some level) =
+  frame_gains s q (Some i) (Some level) =
       let same = but_fade in
       rw (value_gains q level, value_gains q level, same.same_stereo, same.same_left, same.same_right)
-  frame_gains s q (some i) none = refl
-  frame_gains s q none level = refl
+  frame_gains s q (Some i) None = refl
+  frame_gains s q None level = refl
 
   -- ---- the fade
 
-  pub gains_fade : (segments : List SeqnSegment) → v.sequence ≡ some segments → here.fades ≡ true → here.path_length ≡ joined_length (2 ^ k) segments
+  pub gains_fade : (segments : List SeqnSegment) → v.sequence ≡ Some segments → here.fades ≡ true → here.path_length ≡ joined_length (2 ^ k) segments
   unfolding gains_of
   gains_fade segments e = rw e (go v.fade)
     where
       go : (fade : Option Fade) →
-          let g = faded_by (unfaded v velocity) fade (some segments) k in
+          let g = faded_by (unfaded v velocity) fade (Some segments) k in
           g.fades ≡ true → g.path_length ≡ joined_length (2 ^ k) segments
-      go (some f) t = refl
-      go none t = impossible cc
+      go (Some f) t = refl
+      go None t = impossible cc
 
-  pub gains_no_fade : v.sequence ≡ none → here.fades ≡ false
+  pub gains_no_fade : v.sequence ≡ None → here.fades ≡ false
   unfolding gains_of
   gains_no_fade e = rw e (go v.fade)
     where
-      go : (fade : Option Fade) → (faded_by (unfaded v velocity) fade none k).fades ≡ false
-      go (some f) = refl
-      go none = refl
+      go : (fade : Option Fade) → (faded_by (unfaded v velocity) fade None k).fades ≡ false
+      go (Some f) = refl
+      go None = refl
 
 -- a fade that fits has a sequence; `ss` are its segments as they were read
-pub fade_sequence : (v : Voice) (k : ℕ) (f : Fade) (ss : List SeqnSegment) → ((segments : List SeqnSegment) → v.sequence ≡ some segments → ss ≡ segments) → v.fade ≡ some f → FadeShort v k
-    → (v.sequence ≡ some ss) × (joined_length (2 ^ k) ss < 2 ^ 32)
+pub fade_sequence : (v : Voice) (k : ℕ) (f : Fade) (ss : List SeqnSegment) → ((segments : List SeqnSegment) → v.sequence ≡ Some segments → ss ≡ segments) → v.fade ≡ Some f → FadeShort v k
+    → (v.sequence ≡ Some ss) × (joined_length (2 ^ k) ss < 2 ^ 32)
 fade_sequence v k f ss read e fits = go v.sequence refl (rw e at fits)
   where
-    go : (sequence : Option (List SeqnSegment)) → v.sequence ≡ sequence → FadeOn (some f) sequence k → (v.sequence ≡ some ss) × (joined_length (2 ^ k) ss < 2 ^ 32)
-    go (some segments) there short = (there ∙ ap some (sym (read segments there)), rw (read segments there) short)
-    go none there short = absurd short
+    go : (sequence : Option (List SeqnSegment)) → v.sequence ≡ sequence → FadeOn (Some f) sequence k → (v.sequence ≡ Some ss) × (joined_length (2 ^ k) ss < 2 ^ 32)
+    go (Some segments) there short = (there ∙ ap Some (sym (read segments there)), rw (read segments there) short)
+    go None there short = absurd short
 
 -- ---- the length in octave k
 

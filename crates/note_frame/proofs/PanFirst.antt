@@ -6,7 +6,6 @@ use Prim.Native.Nat.{ℕ, ◌-◌, ◌≤◌}
 use mathlib.Core.Bool.{Bool, true, false, cond}
 use mathlib.Core.List.{List}
 use mathlib.Core.Logic.{◌↔◌, ◌⊎◌, inl, inr, ⊎_elim}
-use mathlib.Core.Option.{Option, none, some}
 use mathlib.Core.Path.{◌≡◌, refl, sym, ap, ◌∙◌}
 use native.Mathlib.Omega.{arith}
 use borrow.Author.Tests.{ltb-true, ltb-false}
@@ -32,6 +31,7 @@ use Rattle.note_frame.specs.declared.playing.Playing.{Playing}
 use Rattle.note_frame.specs.declared.shares.Shares.{Shares}
 use Rattle.note_frame.proofs.SharesLaws.{two_channels_lem, one_channel_lem}
 use Rattle.note_frame.proofs.FrameLaws.{both_frames}
+use Rattle.std.specs.Prelude.{None, Option, Some}
 
 -- ---- the shares
 
@@ -40,15 +40,15 @@ pan_at_lem : (p : Pan) (l : ℕ) → pan_shares p ≡ record { left = l; right =
 pan_at_lem p l = (ap (λ (s : Shares). s.left), λ e. rw e)
 
 alone : (channel : Option ChannelAssignment) (pan : Option Pan) → shares_of channel pan ≡ channel_shares channel ↔ ChannelAlone channel pan
-alone (some Left) none = (λ e. tt, λ e. one_channel_lem (some Left) none refl)
-alone (some Left) (some p) = rw (one_channel_lem (some Left) (some p) refl) (pan_at_lem p 65536)
-alone (some Right) none = (λ e. tt, λ e. one_channel_lem (some Right) none refl)
-alone (some Right) (some p) = rw (one_channel_lem (some Right) (some p) refl) (pan_at_lem p 0)
-alone (some Stereo) none = (λ e. tt, λ e. two_channels_lem none)
-alone (some Stereo) (some p) = (λ e. tt, λ e. two_channels_lem (some p))
-alone none none = (λ e. tt, λ e. one_channel_lem none none refl)
-alone none (some p) =
-    rw (one_channel_lem none (some p) refl)
+alone (Some Left) None = (λ e. tt, λ e. one_channel_lem (Some Left) None refl)
+alone (Some Left) (Some p) = rw (one_channel_lem (Some Left) (Some p) refl) (pan_at_lem p 65536)
+alone (Some Right) None = (λ e. tt, λ e. one_channel_lem (Some Right) None refl)
+alone (Some Right) (Some p) = rw (one_channel_lem (Some Right) (Some p) refl) (pan_at_lem p 0)
+alone (Some Stereo) None = (λ e. tt, λ e. two_channels_lem None)
+alone (Some Stereo) (Some p) = (λ e. tt, λ e. two_channels_lem (Some p))
+alone None None = (λ e. tt, λ e. one_channel_lem None None refl)
+alone None (Some p) =
+    rw (one_channel_lem None (Some p) refl)
     (λ e. let left_full = ap (λ (s : Shares). s.left) e in let right_full = ap (λ (s : Shares). s.right) e in omega arith, λ e. absurd e)
 
 -- ---- parts of a value
@@ -90,10 +90,10 @@ module _ (x : ℤ) where
 
   -- one side at least has all of it
   quiet_zero : (channel : Option ChannelAssignment) → Quiet (plain channel) → x ≡ pos 0
-  quiet_zero (some Left) q = full x ∙ q.0
-  quiet_zero (some Right) q = full x ∙ q.1
-  quiet_zero (some Stereo) q = full x ∙ q.0
-  quiet_zero none q = full x ∙ q.0
+  quiet_zero (Some Left) q = full x ∙ q.0
+  quiet_zero (Some Right) q = full x ∙ q.1
+  quiet_zero (Some Stereo) q = full x ∙ q.0
+  quiet_zero None q = full x ∙ q.0
 
   stays : (channel : Option ChannelAssignment) (pan : Option Pan) → ChannelAlone channel pan ⊎ Quiet (plain channel) → shared x (shares_of channel pan) ≡ plain channel
   stays channel pan (inl a) = ap (shared x) ((alone channel pan).1 a)
@@ -113,11 +113,11 @@ module _ (x : ℤ) where
   -- so either the shares are the channel's or the value is 0
   by_sides : (channel : Option ChannelAssignment) (pan : Option Pan) → shared x (pan_else pan (channel_shares channel)) ≡ plain channel
       → ChannelAlone channel pan ⊎ (x ≡ pos 0)
-  by_sides channel none e = inl tt
-  by_sides (some Left) (some p) e = left_stays p (ap (λ (f : Frame). f.left) e)
-  by_sides (some Right) (some p) e = right_stays p (ap (λ (f : Frame). f.right) e)
-  by_sides (some Stereo) (some p) e = inl tt
-  by_sides none (some p) e =
+  by_sides channel None e = inl tt
+  by_sides (Some Left) (Some p) e = left_stays p (ap (λ (f : Frame). f.left) e)
+  by_sides (Some Right) (Some p) e = right_stays p (ap (λ (f : Frame). f.right) e)
+  by_sides (Some Stereo) (Some p) e = inl tt
+  by_sides None (Some p) e =
       ⊎_elim (λ l. ⊎_elim (λ r. absurd (omega (arith, l, r))) inr (right_stays p (ap (λ (f : Frame). f.right) e))) inr
       (left_stays p (ap (λ (f : Frame). f.left) e))
 
@@ -145,7 +145,7 @@ module _ (v : Voice) (channel : Option ChannelAssignment) (pan : Option Pan) whe
   module _ (s : Sides) (n : Playing) (q i level : ℕ) where
     -- a frame that sounds
     abbrev routed_frame : Frame
-    routed_frame = frame_at (routed v channel pan) s (value (routed v channel pan) n.octave n.velocity) q (some i) (some level)
+    routed_frame = frame_at (routed v channel pan) s (value (routed v channel pan) n.octave n.velocity) q (Some i) (Some level)
 
     -- the value in full of the sample that lies there
     abbrev in_full : List ℤ → ℤ
@@ -183,52 +183,52 @@ module _ (v : Voice) (s : Sides) (n : Playing) (p : ℕ) where
       every_frame v s c d pan pan₂ n p ◌≡◌ refl
       (λ q i level. rw (routed_parts v c pan s n q i level, routed_parts v d pan₂ s n q i level, e, e₂))
 
-  over_same : (channel : Option ChannelAssignment) (pan : Option Pan) → (by channel pan).sounds ≡ (by channel none).sounds
+  over_same : (channel : Option ChannelAssignment) (pan : Option Pan) → (by channel pan).sounds ≡ (by channel None).sounds
   over_same channel pan =
-      every_frame v s channel channel pan none n p (λ f g. f.sounds ≡ g.sounds) refl
-      (λ q i level. rw (routed_parts v channel pan s n q i level, routed_parts v channel none s n q i level))
+      every_frame v s channel channel pan None n p (λ f g. f.sounds ≡ g.sounds) refl
+      (λ q i level. rw (routed_parts v channel pan s n q i level, routed_parts v channel None s n q i level))
 
   -- when a frame f is g, which is without the pan
   abbrev Stays : Option ChannelAssignment → Option Pan → Frame → Frame → Type 0
   Stays channel pan f g = f ≡ g ↔ ChannelAlone channel pan ⊎ Quiet g
 
-  one_stays : (channel : Option ChannelAssignment) (pan : Option Pan) → is_stereo channel ≡ false → Stays channel pan (by channel pan) (by channel none)
+  one_stays : (channel : Option ChannelAssignment) (pan : Option Pan) → is_stereo channel ≡ false → Stays channel pan (by channel pan) (by channel None)
   one_stays channel pan m =
-      every_frame v s channel channel pan none n p (Stays channel pan) (λ e. inr (refl, refl), λ e. refl)
+      every_frame v s channel channel pan None n p (Stays channel pan) (λ e. inr (refl, refl), λ e. refl)
       (λ q i level.
       let x = in_full v channel pan s n q i level s.left in
-      rw (one_value v channel pan s n q i level m, one_value v channel none s n q i level m, one_channel_lem channel none m) (stayed x channel pan m, stays x channel pan))
+      rw (one_value v channel pan s n q i level m, one_value v channel None s n q i level m, one_channel_lem channel None m) (stayed x channel pan m, stays x channel pan))
 
-  frame_stays : (channel : Option ChannelAssignment) (pan : Option Pan) → Stays channel pan (by channel pan) (by channel none)
-  frame_stays (some Left) pan = one_stays (some Left) pan refl
-  frame_stays (some Right) pan = one_stays (some Right) pan refl
-  frame_stays (some Stereo) pan = (
-    λ e. inl ((alone (some Stereo) pan).0 (two_channels_lem pan)),
-    λ e. same_shares (some Stereo) (some Stereo) pan none refl (two_channels_lem pan ∙ sym (two_channels_lem none)),
+  frame_stays : (channel : Option ChannelAssignment) (pan : Option Pan) → Stays channel pan (by channel pan) (by channel None)
+  frame_stays (Some Left) pan = one_stays (Some Left) pan refl
+  frame_stays (Some Right) pan = one_stays (Some Right) pan refl
+  frame_stays (Some Stereo) pan = (
+    λ e. inl ((alone (Some Stereo) pan).0 (two_channels_lem pan)),
+    λ e. same_shares (Some Stereo) (Some Stereo) pan None refl (two_channels_lem pan ∙ sym (two_channels_lem None)),
   )
-  frame_stays none pan = one_stays none pan refl
+  frame_stays None pan = one_stays None pan refl
 
   -- a channel on the left has nothing on the right
-  left_alone : (by (some Left) none).right ≡ pos 0
+  left_alone : (by (Some Left) None).right ≡ pos 0
   left_alone =
-      every_frame v s (some Left) (some Left) none none n p (λ f g. f.right ≡ pos 0) refl
+      every_frame v s (Some Left) (Some Left) None None n p (λ f g. f.right ≡ pos 0) refl
       (λ q i level.
-      rw (one_value v (some Left) none s n q i level refl, one_channel_lem (some Left) none refl)
-      (scaled_nothing (in_full v (some Left) none s n q i level s.left) 0 65536 (omega arith) (omega arith)))
+      rw (one_value v (Some Left) None s n q i level refl, one_channel_lem (Some Left) None refl)
+      (scaled_nothing (in_full v (Some Left) None s n q i level s.left) 0 65536 (omega arith) (omega arith)))
 
   -- with a pan of 65,536 one channel is there, wherever it would be without it
-  leftmost : (channel : Option ChannelAssignment) (pan : Pan) → is_stereo channel ≡ false → held_to_unity pan.position ≡ 65536 → by channel (some pan) ≡ by (some Left) none
+  leftmost : (channel : Option ChannelAssignment) (pan : Pan) → is_stereo channel ≡ false → held_to_unity pan.position ≡ 65536 → by channel (Some pan) ≡ by (Some Left) None
   leftmost channel pan m e =
-      same_shares channel (some Left) (some pan) none m
-      (one_channel_lem channel (some pan) m ∙ (pan_at_lem pan 65536).1 e ∙ sym (one_channel_lem (some Left) none refl))
+      same_shares channel (Some Left) (Some pan) None m
+      (one_channel_lem channel (Some pan) m ∙ (pan_at_lem pan 65536).1 e ∙ sym (one_channel_lem (Some Left) None refl))
 
 pub pan_first : PanFirst
 pan_first = record {
   channel_alone = alone;
-  no_channel = λ pan. one_channel_lem none pan refl;
+  no_channel = λ pan. one_channel_lem None pan refl;
   frames = λ v s n p. frame_stays v s n p v.channel v.pan;
   over = λ v s n p. over_same v s n p v.channel v.pan;
   left_only = λ v s n p pan e e₂ e₃.
-      let same = ap (λ (c : Option ChannelAssignment). by v s n p c v.pan) e ∙ ap (by v s n p (some Right)) e₂ ∙ leftmost v s n p (some Right) pan refl e₃ in
+      let same = ap (λ (c : Option ChannelAssignment). by v s n p c v.pan) e ∙ ap (by v s n p (Some Right)) e₂ ∙ leftmost v s n p (Some Right) pan refl e₃ in
       record { nothing_right = ap (λ (f : Frame). f.right) same ∙ left_alone v s n p; as_left = same };
 }

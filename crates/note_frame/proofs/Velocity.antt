@@ -1,7 +1,6 @@
 -- The velocity's step leaves all of a value at 127, and at no velocity is a frame over that isn't over without it.
 -- Assumes nothing.
 use Prim.Native.Nat.{ℕ}
-use mathlib.Core.Option.{some}
 use mathlib.Core.Path.{◌≡◌, refl, sym, ap}
 use native.Mathlib.Omega.{arith}
 use lib.IntN.{ℤ}
@@ -14,6 +13,7 @@ use Rattle.note_frame.specs.Velocity.{value_without_velocity, frame_without_velo
 use Rattle.note_frame.specs.declared.chain.Frame.{Frame}
 use Rattle.note_frame.specs.declared.playing.Playing.{Playing}
 use Rattle.note_frame.proofs.FrameLaws.{both_frames}
+use Rattle.std.specs.Prelude.{Some}
 
 -- 127 of 127 is all of it
 value_full : (v : Voice) (k velocity : ℕ) → velocity ≡ 127 → (q level : ℕ) (sample : ℤ) (share : ℕ)
@@ -27,7 +27,7 @@ module _ (v : Voice) (s : Sides) (n : Playing) (p : ℕ) where
   with_and_without : (P : Frame → Frame → Type 0) → P silent silent →
       let with = value v n.octave n.velocity in
       let without = value_without_velocity v n.octave in
-      ((q i level : ℕ) → P (frame_at v s with q (some i) (some level)) (frame_at v s without q (some i) (some level)))
+      ((q i level : ℕ) → P (frame_at v s with q (Some i) (Some level)) (frame_at v s without q (Some i) (Some level)))
       → P (frame v s n p) (frame_without_velocity v s n p)
   unfolding frame
   with_and_without P = both_frames v v s (value v n.octave n.velocity) (value_without_velocity v n.octave) n p P refl refl

@@ -1,7 +1,6 @@
 -- Frame p of a note on a voice, whole: the step and the place on the path, the level, the value chain, and the two sides. Fills are
 -- measured by this definition.
-use Rattle.std.specs.Prelude.{ℕ, ◌-◌, ◌*◌, ◌/◌, ◌^◌, min, true, false, cond, List, [], ◌∷◌, leb, ltb, ℤ, pos, ◌*ℤ◌, length, take, get_or}
-use Rattle.std.proofs.Math.Option.{Option, none, some}
+use Rattle.std.specs.Prelude.{ℕ, ◌-◌, ◌*◌, ◌/◌, ◌^◌, min, true, false, cond, List, [], ◌∷◌, leb, ltb, ℤ, pos, ◌*ℤ◌, length, take, get_or, None, Option, Some}
 use Rattle.small_chunks.specs.Pan.{held_to_unity}
 use Rattle.small_chunks.specs.declared.points.EgPoint.{EgPoint}
 use Rattle.small_chunks.specs.declared.sequence.Fade.{Fade}
@@ -47,13 +46,13 @@ attack_level v rate p = held_to_unity (level_at (joined v.attacks) (start_level 
 -- the level after a key-up at frame u: all release points joined, from the attack's level at u; none once they have ended
 unfoldable pub release_level : Voice → ℕ → ℕ → ℕ → Option ℕ
 release_level v rate u p =
-    cond (leb (total_duration (joined v.releases)) (ms_since rate u p)) none
-    (some (held_to_unity (level_at (joined v.releases) (pos (attack_level v rate u)) (ms_since rate u p))))
+    cond (leb (total_duration (joined v.releases)) (ms_since rate u p)) None
+    (Some (held_to_unity (level_at (joined v.releases) (pos (attack_level v rate u)) (ms_since rate u p))))
 
 -- the level of frame p, or none where the note is over
 unfoldable pub level_of : Voice → ℕ → Key → ℕ → Option ℕ
-level_of v rate Held p = some (attack_level v rate p)
-level_of v rate (Released u) p = cond (leb u p) (release_level v rate u p) (some (attack_level v rate p))
+level_of v rate Held p = Some (attack_level v rate p)
+level_of v rate (Released u) p = cond (leb u p) (release_level v rate u p) (Some (attack_level v rate p))
 
 -- ---- the value
 
@@ -67,9 +66,9 @@ faded_from b t q x = cond (leb b q) (scaled_by x (t - q) (t - b)) x
 
 -- a fade begins where its segment begins on the path, in octave k; without one, or without a sequence, nothing changes
 abbrev pub faded_in : Option Fade → Option (List SeqnSegment) → ℕ → ℕ → ℤ → ℤ
-faded_in (some f) (some segments) k q x = faded_from (joined_length (2 ^ k) (take f.segment segments)) (joined_length (2 ^ k) segments) q x
-faded_in (some f) none k q x = x
-faded_in none sequence k q x = x
+faded_in (Some f) (Some segments) k q x = faded_from (joined_length (2 ^ k) (take f.segment segments)) (joined_length (2 ^ k) segments) q x
+faded_in (Some f) None k q x = x
+faded_in None sequence k q x = x
 
 -- a value of step q in octave k, faded
 unfoldable pub faded_at : Voice → ℕ → ℕ → ℤ → ℤ
@@ -101,13 +100,13 @@ right_samples v s = cond (is_stereo v.channel) s.right s.left
 
 -- the frame of step q by a chain, whose sample lies at a place, at a level; without either it is over
 unfoldable pub frame_at : Voice → Sides → Chain → ℕ → Option ℕ → Option ℕ → Frame
-frame_at v s chain q (some i) (some level) = record {
+frame_at v s chain q (Some i) (Some level) = record {
   left = chain q level (get_or s.left i (pos 0)) (share_of v).left;
   right = chain q level (get_or (right_samples v s) i (pos 0)) (share_of v).right;
   sounds = true;
 }
-frame_at v s chain q (some i) none = silent
-frame_at v s chain q none level = silent
+frame_at v s chain q (Some i) None = silent
+frame_at v s chain q None level = silent
 
 -- frame p of a note by a chain: past the path, after the release, and from 4,294,967,295 on it is over
 unfoldable pub frame_by : Voice → Sides → Chain → Playing → ℕ → Frame

@@ -1,17 +1,12 @@
 -- What the code keeps of a voice from frame to frame, and a frame by that; `frame_gains` in the laws says that it is the frame. No reader
 -- of the definition of a frame needs it.
-use Rattle.std.specs.Prelude.{ℕ, ◌≤◌, ◌<◌, ◌^◌, true, false, cond, List, ◌≡◌, ℤ, pos, ◌*ℤ◌, take, get_or}
-use Rattle.std.proofs.Math.Option.{Option, none, some}
+use Rattle.std.specs.Prelude.{ℕ, ◌≤◌, ◌<◌, ◌^◌, true, false, cond, List, ◌≡◌, ℤ, pos, ◌*ℤ◌, take, get_or, None, Option, Some}
 use Rattle.small_chunks.specs.declared.channel.ChannelAssignment.{ChannelAssignment}
 use Rattle.small_chunks.specs.declared.pan.Pan.{Pan}
 use Rattle.small_chunks.specs.declared.sequence.Fade.{Fade}
 use Rattle.small_chunks.specs.declared.sequence.SeqnSegment.{SeqnSegment}
 use Rattle.envelope.specs.Level.{scaled_by}
 use Rattle.sheet.specs.Voice.{Voice, is_stereo}
-use Rattle.sheet_layout.specs.declared.MaybeChannel.{MaybeChannel}
-use Rattle.sheet_layout.specs.declared.MaybeChannel.TheVariants.{Channel, NoChannel}
-use Rattle.sheet_layout.specs.declared.MaybePan.{MaybePan}
-use Rattle.sheet_layout.specs.declared.MaybePan.TheVariants.{Panned, NoPan}
 use Rattle.note_path.specs.Path.{joined_length}
 use Rattle.note_frame.specs.Frame.{volume_of, share_of, faded_from, silent}
 use Rattle.note_frame.specs.declared.chain.Frame.{Frame}
@@ -47,23 +42,13 @@ with_fade g f segments k = record {
 
 -- with a fade, where there are one and a sequence
 abbrev pub faded_by : Gains → Option Fade → Option (List SeqnSegment) → ℕ → Gains
-faded_by g (some f) (some segments) k = with_fade g f segments k
-faded_by g (some f) none k = g
-faded_by g none sequence k = g
+faded_by g (Some f) (Some segments) k = with_fade g f segments k
+faded_by g (Some f) None k = g
+faded_by g None sequence k = g
 
 -- the gains of a voice in octave k, struck at a velocity
 unfoldable pub gains_of : Voice → ℕ → ℕ → Gains
 gains_of v k velocity = faded_by (unfaded v velocity) v.fade v.sequence k
-
--- the channel that the layout's answer says
-abbrev pub channel_answered : MaybeChannel → Option ChannelAssignment
-channel_answered (Channel c) = some c
-channel_answered NoChannel = none
-
--- and the pan
-abbrev pub pan_answered : MaybePan → Option Pan
-pan_answered (Panned p) = some p
-pan_answered NoPan = none
 
 -- ---- a frame by the gains
 
@@ -81,13 +66,13 @@ value_with g level q sample share = scaled_by (before_sides g level q sample) sh
 
 -- the frame of step q whose sample lies at a place, at a level
 unfoldable pub frame_with : Gains → List ℤ → List ℤ → ℕ → Option ℕ → Option ℕ → Frame
-frame_with g left right q (some i) (some level) = record {
+frame_with g left right q (Some i) (Some level) = record {
   left = value_with g level q (get_or left i (pos 0)) g.left_share;
   right = value_with g level q (get_or (cond g.stereo right left) i (pos 0)) g.right_share;
   sounds = true;
 }
-frame_with g left right q (some i) none = silent
-frame_with g left right q none level = silent
+frame_with g left right q (Some i) None = silent
+frame_with g left right q None level = silent
 
 -- ---- what the code asks
 
@@ -106,9 +91,9 @@ pub record InRange (g : Gains) (level q : ℕ) : Type 0 where
 
 -- a fade has a sequence, whose path is under 2^32 long
 abbrev pub FadeOn : Option Fade → Option (List SeqnSegment) → ℕ → Type 0
-FadeOn (some f) (some segments) k = joined_length (2 ^ k) segments < 2 ^ 32
-FadeOn (some f) none k = ⊥
-FadeOn none sequence k = Unit
+FadeOn (Some f) (Some segments) k = joined_length (2 ^ k) segments < 2 ^ 32
+FadeOn (Some f) None k = ⊥
+FadeOn None sequence k = Unit
 
 -- the same of a voice in octave k
 abbrev pub FadeShort : Voice → ℕ → Type 0

@@ -1,7 +1,6 @@
 -- What it means that a pan comes before the channel: which shares and which frames it changes, and that it can put a voice on the other
 -- side. It is proved as `pan_first`.
-use Rattle.std.specs.Prelude.{ℕ, ◌↔◌, ◌⊎◌, ◌≡◌, pos}
-use Rattle.std.proofs.Math.Option.{Option, none, some}
+use Rattle.std.specs.Prelude.{ℕ, ◌↔◌, ◌⊎◌, ◌≡◌, pos, None, Option, Some}
 use Rattle.small_chunks.specs.Pan.{held_to_unity}
 use Rattle.small_chunks.specs.declared.channel.ChannelAssignment.{ChannelAssignment}
 use Rattle.small_chunks.specs.declared.channel.ChannelAssignment.TheVariants.{Left, Right, Stereo}
@@ -28,16 +27,16 @@ routed v channel pan = record {
 
 -- the voice without its pan
 abbrev pub unpanned : Voice → Voice
-unpanned v = routed v v.channel none
+unpanned v = routed v v.channel None
 
 -- which channels and pans give the shares that the channel alone gives: with CHAN 2 the pan, clamped, is 65,536, with CHAN 4 it is 0; two
 -- channels don't look at it, and without a CHAN every pan changes them
 abbrev pub ChannelAlone : Option ChannelAssignment → Option Pan → Type 0
-ChannelAlone channel none = Unit
-ChannelAlone (some Left) (some p) = held_to_unity p.position ≡ 65536
-ChannelAlone (some Right) (some p) = held_to_unity p.position ≡ 0
-ChannelAlone (some Stereo) (some p) = Unit
-ChannelAlone none (some p) = ⊥
+ChannelAlone channel None = Unit
+ChannelAlone (Some Left) (Some p) = held_to_unity p.position ≡ 65536
+ChannelAlone (Some Right) (Some p) = held_to_unity p.position ≡ 0
+ChannelAlone (Some Stereo) (Some p) = Unit
+ChannelAlone None (Some p) = ⊥
 
 -- nothing on either side
 abbrev pub Quiet : Frame → Type 0
@@ -46,14 +45,14 @@ Quiet f = (f.left ≡ pos 0) × (f.right ≡ pos 0)
 -- heard on the left only: nothing on the right, and all else as CHAN 2 alone has it
 pub record LeftOnly (v : Voice) (s : Sides) (n : Playing) (p : ℕ) : Type 0 where
   pub nothing_right : (frame v s n p).right ≡ pos 0
-  pub as_left : frame v s n p ≡ frame (routed v (some Left) none) s n p
+  pub as_left : frame v s n p ≡ frame (routed v (Some Left) None) s n p
 
 -- the shares, and then the frames, with the pan and without it; a voice with a CHAN is without its pan what the CHAN makes of it
 pub record PanFirst : Type 0 where
   -- the shares are what the channel alone gives exactly for these
   pub channel_alone : (channel : Option ChannelAssignment) (pan : Option Pan) → shares_of channel pan ≡ channel_shares channel ↔ ChannelAlone channel pan
   -- without a CHAN they are the pan's, or both in full
-  pub no_channel : (pan : Option Pan) → shares_of none pan ≡ pan_else pan both_full
+  pub no_channel : (pan : Option Pan) → shares_of None pan ≡ pan_else pan both_full
   -- a frame is as without the pan exactly for these too, and where nothing is on either side without it
   pub frames : (v : Voice) (s : Sides) (n : Playing) (p : ℕ)
       → frame v s n p ≡ frame (unpanned v) s n p ↔ ChannelAlone v.channel v.pan ⊎ Quiet (frame (unpanned v) s n p)
@@ -61,4 +60,4 @@ pub record PanFirst : Type 0 where
   pub over : (v : Voice) (s : Sides) (n : Playing) (p : ℕ) → (frame v s n p).sounds ≡ (frame (unpanned v) s n p).sounds
   -- CHAN 4 with a pan that is 65,536, clamped, is heard on the left only, at every frame
   pub left_only : (v : Voice) (s : Sides) (n : Playing) (p : ℕ) (pan : Pan)
-      → v.channel ≡ some Right → v.pan ≡ some pan → held_to_unity pan.position ≡ 65536 → LeftOnly v s n p
+      → v.channel ≡ Some Right → v.pan ≡ Some pan → held_to_unity pan.position ≡ 65536 → LeftOnly v s n p

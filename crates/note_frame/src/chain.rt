@@ -1,6 +1,6 @@
 // The value chain, and the two sides.
 ghost use Rattle.std.specs.Prelude.{◌≡◌, true, ◌≤◌, ◌<◌, length};
-ghost use Rattle.std.proofs.Math.Option.{some};
+ghost use Rattle.std.specs.Prelude.{Some};
 ghost use Rattle.std.specs.Int.{w16};
 ghost use Rattle.std.proofs.Common.{SFits};
 ghost use Rattle.envelope.specs.Level.{scaled_by};
@@ -36,10 +36,8 @@ fn fade_by(g: Gains, q: usize, x: i32) -> i32
     requires { g.fades ≡ true → q < g.path_length }
     ensures { result ≡ faded_with g q x }
 {
-    if g.fades {
-        if g.fade_start as usize <= q {
-            return scaled(x, g.path_length - q as u32, g.path_length - g.fade_start);
-        }
+    if g.fades && g.fade_start as usize <= q {
+        return scaled(x, g.path_length - q as u32, g.path_length - g.fade_start);
     }
     x
 }
@@ -76,7 +74,7 @@ pub fn over() -> Frame
 // The frame of step q at a level, whose samples lie at place i.
 pub fn frame_at(g: Gains, level: u32, q: usize, i: usize, left: &[i8], right: &[i8]) -> Frame
     requires { InRange g level q × (i < length left.now) × (g.stereo ≡ true → i < length right.now) }
-    ensures { result ≡ frame_with g left.now right.now q (some i) (some level) }
+    ensures { result ≡ frame_with g left.now right.now q (Some i) (Some level) }
 {
     let l = before_sides(g, level, q, left[i]);
     if g.stereo {

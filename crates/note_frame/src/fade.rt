@@ -17,13 +17,9 @@ pub(crate) fn with_fade(g: Gains, f: Fade, segments: &[u8], k: u8) -> Gains
     let fade_start = sequence_length(segments, f.segment as usize) * scale;
     let path_length = sequence_length(segments, segments.len()) * scale;
     Gains {
-        volume: g.volume,
-        velocity: g.velocity,
-        left_share: g.left_share,
-        right_share: g.right_share,
-        stereo: g.stereo,
         fades: true,
         fade_start: fade_start as u32,
         path_length: path_length as u32,
+        ..g
     }
 }

@@ -1,36 +1,25 @@
 // What doesn't change from frame to frame: from the sheet volume, shares of the sides, and the fade; from the note its velocity.
-ghost use Rattle.std.specs.Prelude.{◌≡◌, ◌<◌, min};
+ghost use Rattle.std.specs.Prelude.{◌≡◌, ◌<◌};
 ghost use Rattle.sheet_layout.specs.Layout.{layout_of};
 ghost use Rattle.sheet.specs.Judge.{judged};
 ghost use Rattle.sheet.specs.Read.{read_sheet};
-ghost use Rattle.sheet.specs.declared.judge.Judged.TheVariants.{Sound};
+ghost use Rattle.std.specs.Prelude.{Ok};
 ghost use Rattle.note_frame.specs.Gains.{gains_of, FadeShort};
 
 use crate::chain::Gains;
 use crate::fade::with_fade;
 use crate::shares::side_shares;
-use sheet_layout::{
-    Layout, MaybeFade, sheet_channel, sheet_fade, sheet_header, sheet_pan, sheet_stereo,
-};
-
-fn full_volume(volume: u32) -> u32
-    ensures { result ≡ min volume 65536 }
-{
-    if 65536 < volume {
-        return 65536;
-    }
-    volume
-}
+use sheet_layout::{Layout, sheet_channel, sheet_fade, sheet_header, sheet_pan, sheet_stereo};
 
 // The gains of a sound sheet in octave k, struck at a velocity.
 pub fn gains_of(sheet: &[u8], l: Layout, k: u8, velocity: u8) -> Gains
-    requires { (judged sheet.now ≡ Sound) × (l ≡ layout_of (read_sheet sheet.now)) × (k < 64) × FadeShort (read_sheet sheet.now) k }
+    requires { (judged sheet.now ≡ Ok tt) × (l ≡ layout_of (read_sheet sheet.now)) × (k < 64) × FadeShort (read_sheet sheet.now) k }
     ensures { result ≡ gains_of (read_sheet sheet.now) k velocity }
 {
     let h = sheet_header(sheet);
     let s = side_shares(sheet_channel(sheet, l), sheet_pan(sheet, l));
     let g = Gains {
-        volume: full_volume(h.volume),
+        volume: h.volume.min(65536),
         velocity: velocity as u32,
         left_share: s.left,
         right_share: s.right,
@@ -39,10 +28,9 @@ pub fn gains_of(sheet: &[u8], l: Layout, k: u8, velocity: u8) -> Gains
         fade_start: 0,
         path_length: 0,
     };
-    let fade = sheet_fade(sheet, l);
-    match fade {
-        MaybeFade::NoFade => g,
-        MaybeFade::Fades(f) => {
+    match sheet_fade(sheet, l) {
+        None => g,
+        Some(f) => {
             let start = l.sequence;
             let end = l.fade;
             let segments = &sheet[start..end];

@@ -1,25 +1,25 @@
 -- The segments ahead of a step, of which the first is taken off and passed by until one has the step.
 --     Ahead, Ends, ends, ahead_here, ahead_past, ahead_none     a list of segments ahead: its first has a step or is passed by
---     Rest, rest_of, rest_past, rest_here                       the same for the segments from a place of the part on
+--     Rest, rest_of, rest_past, rest_here                       the same for the segments that an iterator has left
 --     rest_found, rest_end                                      the run where the first has step q, or none is left
 -- Assumes nothing.
 use Prim.Native.Nat.{ℕ, ◌+◌, ◌-◌, ◌*◌, ◌≤◌, ◌<◌}
 use mathlib.Core.Bool.{true}
 use mathlib.Core.List.{List, [], ◌∷◌}
-use mathlib.Core.Option.{none, some}
-use mathlib.Core.Path.{◌≡◌, sym, subst, ◌∙◌}
+use mathlib.Core.Path.{◌≡◌, refl, ap, subst, ◌∙◌}
 use native.Mathlib.Nat.{mul-le-mul_right, mul-sub, mul_comm}
 use native.Mathlib.Omega.{arith}
-use lib.ListN.{length, drop}
-use Rattle.small_chunks.specs.Sequence.{segment_of, segment_length}
+use denote.Ref.{Bor}
+use Rattle.small_chunks.specs.Sequence.{segment_length}
 use Rattle.small_chunks.specs.declared.sequence.SeqnSegment.{SeqnSegment}
-use Rattle.sheet_layout.specs.Members.{segments_in, Whole, next_member}
 use Rattle.note_path.specs.Path.{segments_path}
 use Rattle.note_path.specs.Run.{place_of, Within, Sane, Good, Reached}
 use Rattle.note_path.specs.declared.run.Path.{Path}
 use Rattle.note_path.specs.declared.run.Run.{Run}
+use Rattle.note_path.specs.declared.segments.Segments.{Segments}
+use Rattle.note_path.specs.Segments.{left, Stands, Takes}
 use Rattle.note_path.proofs.LengthLaws.{steps_none, steps_here, steps_past}
-use Rattle.note_path.proofs.SegmentLaws.{Stands, stands_next, segments_same, segments_end, segment_here, segment_long, segment_past}
+use Rattle.std.specs.Prelude.{None, Some}
 
 -- ---- a list of segments ahead
 
@@ -34,7 +34,7 @@ pub record Ends (p : Path) (s : SeqnSegment) : Type 0 where
   pub within : p.first + s.end * p.scale ≤ p.samples
 
 module _ {p : Path} {part : List ℕ} {until : ℕ} where
-  ahead_none : Ahead p part until [] → (q : ℕ) → until ≤ q → place_of p part q ≡ none
+  ahead_none : Ahead p part until [] → (q : ℕ) → until ≤ q → place_of p part q ≡ None
   ahead_none a q g = a.later q g ∙ steps_none p.first p.scale (q - until)
 
   module _ {s : SeqnSegment} {ss : List SeqnSegment} (a : Ahead p part until (s ∷ ss)) where
@@ -45,7 +45,7 @@ module _ {p : Path} {part : List ℕ} {until : ℕ} where
     length_is = mul_comm _ _ ∙ mul-sub p.scale s.end s.start ∙ rw (mul_comm p.scale s.end, mul_comm p.scale s.start)
 
     module _ (past : ℕ) (e : past ≡ until + (s.end * p.scale - s.start * p.scale)) where
-      ahead_here : (q : ℕ) → until ≤ q → q < past → place_of p part q ≡ some (p.first + s.start * p.scale + (q - until))
+      ahead_here : (q : ℕ) → until ≤ q → q < past → place_of p part q ≡ Some (p.first + s.start * p.scale + (q - until))
       ahead_here q g h = a.later q g ∙ steps_here p.first p.scale s ss (q - until) (omega (arith, length_is))
 
       ahead_past : Ahead p part past ss
@@ -57,70 +57,50 @@ module _ {p : Path} {part : List ℕ} {until : ℕ} where
                 a.later q (omega arith) ∙ steps_past p.first p.scale s ss (q - until) (omega (arith, length_is)) ∙ rw left;
           }
 
--- ---- the segments from a place of the part on
+-- ---- the segments that an iterator has left
 
--- the segments at `at` and past it are ahead, and step q is no earlier than they
-pub record Rest (p : Path) (part : List ℕ) (q until at : ℕ) : Type 0 where
-  pub stands : Stands part at
+-- they are ahead, and step q is no earlier than they
+pub record Rest (p : Path) (part : List ℕ) (q until : ℕ) (a : Segments) : Type 0 where
+  pub same : a.part.now ≡ part
+  pub stands : Stands a
   pub passed : until ≤ q
-  pub ahead : Ahead p part until (segments_in (drop at part))
+  pub ahead : Ahead p part until (left a)
 
-module _ {p : Path} {part : List ℕ} {q : ℕ} where
-  -- from any place on to the segment after it
-  rest_next : {until at : ℕ} (next : ℕ) → at ≤ length part → Whole 8 8 (drop at part) → Ahead p part until (segments_in (drop at part)) → until ≤ q
-      → next ≡ next_member 8 at part → Rest p part q until next
-  rest_next {until} {at} next inside whole a passed e =
+module _ {p : Path} {part : List ℕ} {q until : ℕ} {a : Segments} (r : Rest p part q until a) where
+  -- a run past which they lie
+  run_before : (from start : ℕ) → from ≤ until → start + (until - from) ≤ p.samples → ((u : ℕ) → from ≤ u → u < until → place_of p part u ≡ Some (start + (u - from)))
+      → Good p part (record { at = a.at; from = from; until = until; start = start })
+  run_before from start order within here =
+      let stands = rw r.same at r.stands in
+      let ahead = rw r.same at r.ahead in
+      record { inside = stands.0; order = order; within = within; here = here; rest = ahead.fit; whole = stands.1; later = λ t. ahead.later }
+
+  pub rest_end : Sane p part → left a ≡ [] → Reached p part q (record { at = a.at; from = until; until = until; start = p.first })
+  rest_end s none =
       record {
-        stands = stands_next part at e inside whole;
-        passed = passed;
-        ahead = subst (Ahead p part until) (sym (segments_same part at e)) a;
+        good = run_before until p.first (omega arith) (omega (arith, s.looped)) (λ u g₁ g₂. absurd (omega arith));
+        begun = r.passed;
+        past = ahead_none (subst (Ahead p part until) none r.ahead) q;
       }
 
-  -- from a run that is done
-  pub rest_of : {r : Run} (at : ℕ) → Good p part r → p.sequence ≡ true → r.until ≤ q → at ≡ next_member 8 r.at part
-      → Rest p part q r.until at
-  rest_of at g t passed e = rest_next at g.inside g.whole (record { fit = g.rest; later = g.later t }) passed e
+  module _ (s : SeqnSegment) (b : Segments) (took : Takes a (Some s) b) where
+    pub rest_here : Ahead p part until (s ∷ left b)
+    rest_here = subst (Ahead p part until) took.0 r.ahead
 
-  module _ {until at : ℕ} (r : Rest p part q until at) where
-    pub rest_end : Sane p part → length part ≤ at → Reached p part q (record { at = at; from = until; until = until; start = p.first })
-    rest_end s h =
-        record {
-          good = record {
-            inside = r.stands.inside;
-            order = omega arith;
-            within = omega (arith, s.looped);
-            here = λ u g₁ g₂. absurd (omega arith);
-            rest = r.ahead.fit;
-            whole = r.stands.whole;
-            later = λ t. r.ahead.later;
-          };
-          begun = r.passed;
-          past = ahead_none (subst (Ahead p part until) (segments_end part at h) r.ahead) q;
-        }
+    -- those past it
+    pub rest_past : (past : ℕ) → past ≡ until + (s.end * p.scale - s.start * p.scale) → Stands b → past ≤ q → Rest p part q past b
+    rest_past past e stands passed = record { same = ap (λ (x : Bor (List ℕ)). x.now) took.1 ∙ r.same; stands = stands; passed = passed; ahead = ahead_past rest_here past e }
 
-    module _ (h : at < length part) (s : SeqnSegment) (e : s ≡ segment_of (drop (at + 1) part)) where
-      pub rest_here : Ahead p part until (s ∷ segments_in (drop (at + 9) part))
-      rest_here = rw e (subst (Ahead p part until) (segment_here part r.stands h) r.ahead)
+-- from a run that is done
+pub rest_of : {p : Path} {part : Bor (List ℕ)} {q : ℕ} {r : Run} → Good p part.now r → p.sequence ≡ true → r.until ≤ q → Rest p part.now q r.until (record { part = part; at = r.at })
+rest_of g t passed = record { same = refl; stands = (g.inside, g.whole); passed = passed; ahead = record { fit = g.rest; later = g.later t } }
 
-      module _ (past : ℕ) (e₂ : past ≡ until + (s.end * p.scale - s.start * p.scale)) where
-        pub rest_past : (next : ℕ) → past ≤ q → next ≡ next_member 8 (at + 9) part → Rest p part q past next
-        rest_past next passed e₃ =
-            rest_next next (segment_long part r.stands h) (segment_past part r.stands h) (ahead_past rest_here past e₂) passed e₃
-
-        pub rest_found : q < past → Reached p part q (record { at = at + 9; from = until; until = past; start = p.first + s.start * p.scale })
-        rest_found l =
-            let k = ends rest_here in
-            let more = ahead_past rest_here past e₂ in
-            record {
-              good = record {
-                inside = segment_long part r.stands h;
-                order = omega arith;
-                within = omega arith;
-                here = ahead_here rest_here past e₂;
-                rest = more.fit;
-                whole = segment_past part r.stands h;
-                later = λ t. more.later;
-              };
-              begun = r.passed;
-              past = λ g. absurd (omega arith);
-            }
+-- the run where the first of them has step q
+pub rest_found : {p : Path} {part : List ℕ} {q until : ℕ} {a : Segments} (r : Rest p part q until a) (s : SeqnSegment) (b : Segments) (took : Takes a (Some s) b) (past : ℕ)
+    → past ≡ until + (s.end * p.scale - s.start * p.scale) → Stands b → q < past
+    → Reached p part q (record { at = b.at; from = until; until = past; start = p.first + s.start * p.scale })
+rest_found {p} {part} {q} {until} {a} r s b took past e stands h =
+    let here = rest_here r s b took in
+    let k = ends here in
+    let more : Rest p part past past b = record { same = ap (λ (x : Bor (List ℕ)). x.now) took.1 ∙ r.same; stands = stands; passed = omega arith; ahead = ahead_past here past e } in
+    record { good = run_before more until (p.first + s.start * p.scale) (omega arith) (omega arith) (ahead_here here past e); begun = r.passed; past = λ g. absurd (omega arith) }

@@ -6,7 +6,6 @@
 use Prim.Native.Nat.{ℕ, ◌+◌, ◌-◌, ◌*◌, ◌≤◌, ◌^◌}
 use mathlib.Core.Bool.{Bool, true, false}
 use mathlib.Core.List.{List, [], ◌∷◌}
-use mathlib.Core.Option.{none, some}
 use mathlib.Core.Path.{◌≡◌, refl, sym, ◌∙◌}
 use native.Mathlib.Nat.{mul-le-mul_right, zero-mul, add-mul}
 use native.Mathlib.Omega.{arith}
@@ -20,19 +19,20 @@ use Rattle.note_path.specs.Run.{place_of, Within, InOrder, InOctave, PathIs, seq
 use Rattle.note_path.specs.declared.run.Path.{Path}
 use Rattle.note_path.proofs.RunLaws.{place_sequence, place_loop}
 use Rattle.note_path.proofs.TurnLaws.{loop_once}
+use Rattle.std.specs.Prelude.{None, Some}
 
 -- ---- the path, by what the voice has
 
 module _ (h : VoiceHeader) (n k q : ℕ) where
-  pub path_sequence : (segments : List SeqnSegment) → path_of (some segments) h n k q ≡ segments_path (octave_start h k) (2 ^ k) segments q
+  pub path_sequence : (segments : List SeqnSegment) → path_of (Some segments) h n k q ≡ segments_path (octave_start h k) (2 ^ k) segments q
   unfolding path_of
   path_sequence segments = refl
 
-  path_samples : hi h ≡ 0 → path_of none h n k q ≡ samples_path n q
+  path_samples : hi h ≡ 0 → path_of None h n k q ≡ samples_path n q
   unfolding path_of
   path_samples z = rw (eq-eqb (hi h) 0 z)
 
-  path_loop : (hi h ≡ 0 → ⊥) → path_of none h n k q ≡ loop_path (octave_start h k) (h.one_shot_hi_samples * 2 ^ k) (h.repeat_hi_samples * 2 ^ k) q
+  path_loop : (hi h ≡ 0 → ⊥) → path_of None h n k q ≡ loop_path (octave_start h k) (h.one_shot_hi_samples * 2 ^ k) (h.repeat_hi_samples * 2 ^ k) q
   unfolding path_of
   path_loop nz = rw (ne_eqb (hi h) 0 nz)
 
@@ -47,7 +47,7 @@ module _ (h : VoiceHeader) (k : ℕ) (sequence : Bool) (samples : ℕ) (part : L
     (o : InOctave h k samples (segments_in part)) (w : Whole 8 8 part) where
   -- numbers whose start and loop are the octave's
   same_place : (p : Path) → p.sequence ≡ sequence → p.scale ≡ scale → p.first ≡ octave_start h k
-      → ((q : ℕ) → loop_path p.first p.one_shot p.repeat q ≡ path_of none h samples k q)
+      → ((q : ℕ) → loop_path p.first p.one_shot p.repeat q ≡ path_of None h samples k q)
       → (q : ℕ) → place_of p part q ≡ path_of (sequence_in sequence part) h samples k q
   same_place p e₁ e₂ e₃ loop q = go sequence e₁
     where

@@ -5,7 +5,6 @@
 use Prim.Native.Nat.{ℕ, zero, suc, ◌+◌, ◌-◌, ◌*◌, ◌/◌, ◌%◌, ◌≤◌, ◌<◌}
 use mathlib.Core.Bool.{Bool, true, false, true≢false}
 use mathlib.Core.List.{List}
-use mathlib.Core.Option.{Option, none, some}
 use mathlib.Core.Path.{◌≡◌, refl, sym, ap, ◌∙◌}
 use native.Mathlib.Nat.{mod-eq_of_lt, mod-lt, mod-add-div', add-mul-mod_self_right, zero-add, sub-zero}
 use native.Mathlib.Omega.{arith}
@@ -15,6 +14,7 @@ use Rattle.note_path.specs.Path.{loop_path, samples_path}
 use Rattle.note_path.specs.Run.{Sane, Reached}
 use Rattle.note_path.specs.declared.run.Path.{Path}
 use Rattle.note_path.proofs.RunLaws.{place_loop}
+use Rattle.std.specs.Prelude.{None, Option, Some}
 
 pos_of_ne : (n : ℕ) → (n ≡ 0 → ⊥) → 0 < n
 pos_of_ne zero h = absurd (h refl)
@@ -28,18 +28,18 @@ unfolding loop_path samples_path
 loop_once n q = rw zero-add
 
 module _ (first one_shot repeat : ℕ) where
-  loop_first : (u : ℕ) → u < one_shot + repeat → loop_path first one_shot repeat u ≡ some (first + u)
+  loop_first : (u : ℕ) → u < one_shot + repeat → loop_path first one_shot repeat u ≡ Some (first + u)
   unfolding loop_path
   loop_first u h = go (ltb u one_shot) refl
     where
-      go : (f : Bool) → ltb u one_shot ≡ f → loop_path first one_shot repeat u ≡ some (first + u)
+      go : (f : Bool) → ltb u one_shot ≡ f → loop_path first one_shot repeat u ≡ Some (first + u)
       go true e = rw e
       go false e =
           let k = ltb-false u one_shot e in
           let w : first + one_shot + (u - one_shot) ≡ first + u = omega arith in
           rw (e, ne_eqb repeat 0 (λ z. omega arith), mod-eq_of_lt {n = u - one_shot} {m = repeat} (omega arith), w)
 
-  loop_past : (u : ℕ) → one_shot ≤ u → repeat ≡ 0 → loop_path first one_shot repeat u ≡ none
+  loop_past : (u : ℕ) → one_shot ≤ u → repeat ≡ 0 → loop_path first one_shot repeat u ≡ None
   unfolding loop_path
   loop_past u h z = rw (le-ltb u one_shot h, eq-eqb repeat 0 z)
 
@@ -51,7 +51,7 @@ module _ (first one_shot repeat : ℕ) where
   turn_from_lem q h = omega (arith, mod-add-div' (q - one_shot) repeat)
 
   loop_turn : (q u : ℕ) → one_shot ≤ q → 0 < repeat → turn_from q ≤ u → u < turn_from q + repeat
-      → loop_path first one_shot repeat u ≡ some (first + one_shot + (u - turn_from q))
+      → loop_path first one_shot repeat u ≡ Some (first + one_shot + (u - turn_from q))
   unfolding loop_path
   loop_turn q u h z g₁ g₂ =
       let k = (q - one_shot) / repeat in
@@ -70,7 +70,7 @@ module _ (p : Path) (part : List ℕ) (q : ℕ) (s : Sane p part) (t : p.sequenc
 
   -- a stretch whose steps lie side by side
   stretch : (from until start : ℕ) → from ≤ q → from ≤ until → start + (until - from) ≤ p.samples
-      → ((u : ℕ) → from ≤ u → u < until → loop u ≡ some (start + (u - from))) → (until ≤ q → loop q ≡ none)
+      → ((u : ℕ) → from ≤ u → u < until → loop u ≡ Some (start + (u - from))) → (until ≤ q → loop q ≡ None)
       → Reached p part q (record { at = 0; from = from; until = until; start = start })
   stretch from until start h₁ h₂ h₃ lies past =
       record {

@@ -1,3 +1,4 @@
 -- The meaning of a path.
 pub mod Path
 pub mod Run
+pub mod Segments

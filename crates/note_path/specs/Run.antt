@@ -1,7 +1,6 @@
 -- What the code carries along a path, and asks of it; no reader of the meanings needs it. A path in numbers, and a run: a stretch of the
 -- path whose samples lie side by side.
-use Rattle.std.specs.Prelude.{ℕ, ◌+◌, ◌-◌, ◌*◌, ◌≤◌, ◌<◌, ◌^◌, Bool, true, cond, List, [], ◌∷◌, ◌≡◌, length, drop}
-use Rattle.std.proofs.Math.Option.{Option, none, some}
+use Rattle.std.specs.Prelude.{ℕ, ◌+◌, ◌-◌, ◌*◌, ◌≤◌, ◌<◌, ◌^◌, Bool, true, cond, List, [], ◌∷◌, ◌≡◌, length, drop, None, Option, Some}
 use Rattle.header.specs.Octaves.{hi}
 use Rattle.header.specs.declared.voice_header.VoiceHeader.{VoiceHeader}
 use Rattle.small_chunks.specs.declared.sequence.SeqnSegment.{SeqnSegment}
@@ -44,7 +43,7 @@ pub record Good (p : Path) (part : List ℕ) (r : Run) : Type 0 where
   pub inside : r.at ≤ length part
   pub order : r.from ≤ r.until
   pub within : r.start + (r.until - r.from) ≤ p.samples
-  pub here : (q : ℕ) → r.from ≤ q → q < r.until → place_of p part q ≡ some (r.start + (q - r.from))
+  pub here : (q : ℕ) → r.from ≤ q → q < r.until → place_of p part q ≡ Some (r.start + (q - r.from))
   pub rest : Within p.first p.scale p.samples (segments_in (drop r.at part))
   pub whole : Whole 8 8 (drop r.at part)
   pub later : p.sequence ≡ true → (q : ℕ) → r.until ≤ q → place_of p part q ≡ segments_path p.first p.scale (segments_in (drop r.at part)) (q - r.until)
@@ -53,11 +52,11 @@ pub record Good (p : Path) (part : List ℕ) (r : Run) : Type 0 where
 pub record Reached (p : Path) (part : List ℕ) (q : ℕ) (r : Run) : Type 0 where
   pub good : Good p part r
   pub begun : r.from ≤ q
-  pub past : r.until ≤ q → place_of p part q ≡ none
+  pub past : r.until ≤ q → place_of p part q ≡ None
 
 -- the segments of a part, if there is a sequence
 abbrev pub sequence_in : Bool → List ℕ → Option (List SeqnSegment)
-sequence_in there part = cond there (some (segments_in part)) none
+sequence_in there part = cond there (Some (segments_in part)) None
 
 -- a path in numbers for octave k
 pub record PathIs (h : VoiceHeader) (k : ℕ) (sequence : Bool) (samples : ℕ) (part : List ℕ) (p : Path) : Type 0 where

@@ -3,6 +3,7 @@
 #![tactic(auto)]
 
 mod run;
+mod segments;
 mod sequence;
 
 pub use run::{Path, Run, path_of, power_of_two, run_start, run_to};

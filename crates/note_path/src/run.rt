@@ -4,9 +4,8 @@ ghost use Rattle.header.specs.Octaves.{hi};
 ghost use Rattle.sheet_layout.specs.Members.{segments_in, Whole};
 ghost use Rattle.note_path.specs.Run.{InOctave, Sane, Good, Reached, PathIs};
 
+use crate::segments::Segments;
 use header::VoiceHeader;
-use sheet_layout::next_member;
-use small_chunks::read_segment;
 
 // The octave's samples begin at `first`; `one_shot` and `repeat` are the lengths of its parts, and a segment's offsets are times
 // `scale`. Each side has so many samples.
@@ -119,28 +118,27 @@ fn next_run(p: Path, segments: &[u8], r: Run, q: usize) -> Run
     ensures { Reached p segments.now q result }
 {
     let mut until = r.until;
-    let mut at = next_member(segments, r.at, 8);
-    while at < segments.len() {
-        let body = at + 1;
-        let s = read_segment(segments, body);
+    let mut ahead = Segments {
+        part: segments,
+        at: r.at,
+    };
+    while let Some(s) = ahead.next() {
         let begin = s.start as usize * p.scale;
         let end = s.end as usize * p.scale;
         let past = until + (end - begin);
-        let next = at + 9;
         if q < past {
             let start = p.first + begin;
             return Run {
-                at: next,
+                at: ahead.at,
                 from: until,
                 until: past,
                 start,
             };
         }
         until = past;
-        at = next_member(segments, next, 8);
     }
     Run {
-        at,
+        at: ahead.at,
         from: until,
         until,
         start: p.first,

@@ -1,6 +1,5 @@
 -- The rules of a fill, by their parts, and by the frames filled.
---     rules_are, rules_numbered                      all of them: none has the number 0
---     sequence_numbered .. speed_numbered            nor has one of a part
+--     rules_are                                      all of them, by those after the voice's
 --     NoneOf, none_of                                where none holds, none of a part does
 --     NotAhead, not_ahead, never_ahead               a key-up that isn't ahead of the frames filled
 --     is_none, past_most, within_most                a number that has to be from 1 to a limit
@@ -9,32 +8,22 @@
 use Prim.Native.Nat.{ℕ, ◌≤◌, ◌<◌, min}
 use mathlib.Core.Bool.{true, false, ◌||◌}
 use mathlib.Core.List.{List, ◌++◌}
+use mathlib.Core.Logic.{◌⊎◌, inl, inr}
 use mathlib.Core.Path.{◌≡◌, refl}
 use native.Mathlib.Omega.{arith}
 use borrow.Author.Tests.{lt-ltb, le-ltb, eq-eqb, ne_eqb}
 use lib.Dec.{eqb, ltb}
 use Rattle.refusal.specs.Rules.{Rule, first_holding, NoneHolds}
-use Rattle.refusal.proofs.RuleLaws.{Numbered, numbered_by, none_holds, none_parts}
+use Rattle.refusal.proofs.RuleLaws.{none_holds, none_parts}
 use Rattle.sheet.specs.Voice.{Voice}
 use Rattle.note_frame.specs.declared.playing.Key.{Key}
 use Rattle.note_frame.specs.declared.playing.Key.TheVariants.{Held, Released}
 use Rattle.note_frame.specs.declared.playing.Playing.{Playing}
 use Rattle.voice_rules.specs.Rules.{voice_rules}
-use Rattle.note_rules.specs.Rules.{key_up_ahead, sequence_rules, octave_rules, place_rules, speed_rules, note_rules, fill_rules}
+use Rattle.note_rules.specs.Rules.{key_up_ahead, sequence_rules, octave_rules, place_rules, note_rules, fill_rules}
+use Rattle.std.specs.Prelude.{Ok}
 
 -- ---- the parts
-
-pub sequence_numbered : (v : Voice) → Numbered (sequence_rules v)
-sequence_numbered v = numbered_by (sequence_rules v) tt
-
-pub octave_numbered : (v : Voice) (k : ℕ) → Numbered (octave_rules v k)
-octave_numbered v k = numbered_by (octave_rules v k) tt
-
-pub places_numbered : (places : ℕ) → Numbered (place_rules places)
-places_numbered places = numbered_by (place_rules places) tt
-
-pub speed_numbered : (s r : ℕ) → Numbered (speed_rules s r)
-speed_numbered s r = numbered_by (speed_rules s r) tt
 
 -- no rule of any part holds
 pub record NoneOf (v : Voice) (left right : ℕ) (n : Playing) (frames places : ℕ) : Type 0 where
@@ -59,13 +48,9 @@ module _ (v : Voice) (left right : ℕ) (n : Playing) (frames places : ℕ) wher
   unfolding fill_rules
   rules_are = refl
 
-  pub rules_numbered : Numbered (fill_rules v left right n frames places)
-  unfolding fill_rules
-  rules_numbered = numbered_by (fill_rules v left right n frames places) tt
-
-  pub none_of : first_holding (fill_rules v left right n frames places) ≡ 0 → NoneOf v left right n frames places
+  pub none_of : first_holding (fill_rules v left right n frames places) ≡ Ok tt → NoneOf v left right n frames places
   none_of accepted =
-      let all = none_parts (voice_rules v left right) from_sequence (rw rules_are at (none_holds (fill_rules v left right n frames places) rules_numbered accepted)) in
+      let all = none_parts (voice_rules v left right) from_sequence (rw rules_are at (none_holds (fill_rules v left right n frames places) accepted)) in
       let sequence = none_parts (sequence_rules v) from_octave all.1 in
       let octave = none_parts (octave_rules v n.octave) from_places sequence.1 in
       let even = none_parts (place_rules places) (note_rules v.header n frames) octave.1 in
@@ -74,11 +59,9 @@ module _ (v : Voice) (left right : ℕ) (n : Playing) (frames places : ℕ) wher
 -- ---- from 1 to a limit
 
 module _ (n most : ℕ) where
-  pub is_none : n ≡ 0 → (eqb n 0 || ltb most n) ≡ true
-  is_none e = rw (eq-eqb n 0 e)
-
-  pub past_most : (n ≡ 0 → ⊥) → most < n → (eqb n 0 || ltb most n) ≡ true
-  past_most some h = rw (ne_eqb n 0 some, lt-ltb most n h)
+  pub outside_most : (n ≡ 0) ⊎ ((n ≡ 0 → ⊥) × (most < n)) → (eqb n 0 || ltb most n) ≡ true
+  outside_most (inl e) = rw (eq-eqb n 0 e)
+  outside_most (inr past) = rw (ne_eqb n 0 past.0, lt-ltb most n past.1)
 
   pub within_most : (n ≡ 0 → ⊥) → n ≤ most → (eqb n 0 || ltb most n) ≡ false
   within_most some h = rw (ne_eqb n 0 some, le-ltb most n h)

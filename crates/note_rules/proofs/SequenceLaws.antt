@@ -8,7 +8,6 @@
 use Prim.Native.Nat.{ℕ, ◌*◌, ◌/◌, ◌^◌, ◌≤◌, ◌<◌, min}
 use mathlib.Core.Bool.{Bool, true, false, not}
 use mathlib.Core.List.{List}
-use mathlib.Core.Option.{Option, none, some}
 use mathlib.Core.Path.{◌≡◌, refl, sym, ap, ◌∙◌}
 use native.Mathlib.Nat.{div-le_self, div-eq_of_lt, div-lt_iff_lt-mul, le-div_iff_mul-le}
 use native.Mathlib.Omega.{arith}
@@ -22,20 +21,20 @@ use Rattle.small_chunks.specs.declared.sequence.Fade.{Fade}
 use Rattle.small_chunks.specs.declared.sequence.SeqnSegment.{SeqnSegment}
 use Rattle.sheet.specs.Judge.{judged}
 use Rattle.sheet.specs.Read.{read_sheet}
-use Rattle.sheet.specs.declared.judge.Judged.TheVariants.{Sound}
-use Rattle.sheet_layout.specs.Answers.{fade_answer, sequence_answer}
 use Rattle.sheet_layout.specs.Layout.{layout_of}
 use Rattle.sheet_layout.specs.Members.{between, segments_in, Whole}
 use Rattle.sheet_layout.specs.declared.Layout.{Layout}
 use Rattle.sheet_layout.proofs.PointLaws.{places, sequence_there, no_sequence, sequence_whole}
 use Rattle.note_path.specs.Path.{segments_of, joined_length}
 use Rattle.note_path.proofs.LengthLaws.{scaled_length, take_all_segments}
-use Rattle.note_rules.specs.Answers.{beside_one_shot_by, count_by, fade_misses_by}
+use Rattle.note_rules.specs.Answers.{beside_one_shot_by, fade_misses_by}
+use Rattle.std.specs.Option.{unwrap_or}
 use Rattle.note_rules.specs.Rules.{beside_one_shot, fade_misses}
+use Rattle.std.specs.Prelude.{None, Ok, Option, Some, option_map}
 
 -- ---- the bytes of a sequence
 
-module _ (s : List ℕ) (bytes : (i : ℕ) → Fits w8 (get_or s i 0)) (sound : judged s ≡ Sound) (l : Layout) (is : l ≡ layout_of (read_sheet s)) where
+module _ (s : List ℕ) (bytes : (i : ℕ) → Fits w8 (get_or s i 0)) (sound : judged s ≡ Ok tt) (l : Layout) (is : l ≡ layout_of (read_sheet s)) where
   pub part_order : l.sequence ≤ l.fade
   part_order = rw is (places s bytes sound).2
 
@@ -49,22 +48,22 @@ module _ (s : List ℕ) (bytes : (i : ℕ) → Fits w8 (get_or s i 0)) (sound : 
   part_segments = rw is (go (read_sheet s).sequence refl)
     where
       go : (o : Option (List SeqnSegment)) → (read_sheet s).sequence ≡ o → segments_in (between (layout_of (read_sheet s)).sequence (layout_of (read_sheet s)).fade s) ≡ segments_of o
-      go none e = no_sequence s bytes sound e
-      go (some segments) e = sequence_there s bytes sound segments e
+      go None e = no_sequence s bytes sound e
+      go (Some segments) e = sequence_there s bytes sound segments e
 
 -- ---- the rules by the code's answers
 
-pub beside_is : (o : Option (List SeqnSegment)) (one_shot : ℕ) → beside_one_shot_by (sequence_answer o) one_shot ≡ beside_one_shot o one_shot
-beside_is none one_shot = refl
-beside_is (some segments) one_shot = refl
+pub beside_is : (o : Option (List SeqnSegment)) (one_shot : ℕ) → beside_one_shot_by (option_map length o) one_shot ≡ beside_one_shot o one_shot
+beside_is None one_shot = refl
+beside_is (Some segments) one_shot = refl
 
-pub count_is : (o : Option (List SeqnSegment)) → count_by (sequence_answer o) ≡ length (segments_of o)
-count_is none = refl
-count_is (some segments) = refl
+pub count_is : (o : Option (List SeqnSegment)) → unwrap_or (option_map length o) 0 ≡ length (segments_of o)
+count_is None = refl
+count_is (Some segments) = refl
 
-pub miss_is : (o : Option Fade) (segments : ℕ) → fade_misses_by (fade_answer o) segments ≡ fade_misses o segments
-miss_is none segments = refl
-miss_is (some f) segments = refl
+pub miss_is : (o : Option Fade) (segments : ℕ) → fade_misses_by o segments ≡ fade_misses o segments
+miss_is None segments = refl
+miss_is (Some f) segments = refl
 
 pub not_below : (i n : ℕ) → not (ltb i n) ≡ leb n i
 not_below i n = go (ltb i n) refl

@@ -9,18 +9,19 @@ ghost use Rattle.std.specs.Prelude.{◌≡◌};
 ghost use Rattle.refusal.specs.Rules.{first_holding};
 ghost use Rattle.sheet.specs.Judge.{judged};
 ghost use Rattle.sheet.specs.Read.{read_sheet};
-ghost use Rattle.sheet.specs.declared.judge.Judged.TheVariants.{Sound};
+ghost use Rattle.std.specs.Prelude.{Ok};
 ghost use Rattle.sheet_layout.specs.Layout.{layout_of};
 ghost use Rattle.note_rules.specs.Rules.{fill_rules};
 
 use note_frame::Playing;
 pub use note_rule::{note_refusal, places_refusal};
 pub use octave::octave_refusal;
+use refusal::Refusal;
 pub use sequence::sequence_refusal;
 use sheet_layout::{Layout, sheet_header};
 use voice_rules::voice_refusal;
 
-// The number of the first rule that turns a fill back, or 0: of a note with so many frames filled, into so many places.
+// The number of the first rule that turns a fill back: of a note with so many frames filled, into so many places.
 pub fn fill_refusal(
     sheet: &[u8],
     l: Layout,
@@ -29,26 +30,14 @@ pub fn fill_refusal(
     n: Playing,
     frames: u32,
     places: usize,
-) -> u8
-    requires { (judged sheet.now ≡ Sound) × (l ≡ layout_of (read_sheet sheet.now)) }
+) -> Result<(), Refusal>
+    requires { (judged sheet.now ≡ Ok tt) × (l ≡ layout_of (read_sheet sheet.now)) }
     ensures { result ≡ first_holding (fill_rules (read_sheet sheet.now) left right n frames places) }
 {
-    let of_voice = voice_refusal(sheet, left, right);
-    if of_voice != 0 {
-        return of_voice;
-    }
-    let of_sequence = sequence_refusal(sheet, l);
-    if of_sequence != 0 {
-        return of_sequence;
-    }
-    let of_octave = octave_refusal(sheet, l, n.octave);
-    if of_octave != 0 {
-        return of_octave;
-    }
-    let of_places = places_refusal(places);
-    if of_places != 0 {
-        return of_places;
-    }
+    voice_refusal(sheet, left, right)?;
+    sequence_refusal(sheet, l)?;
+    octave_refusal(sheet, l, n.octave)?;
+    places_refusal(places)?;
     let h = sheet_header(sheet);
     note_refusal(h, n, frames)
 }

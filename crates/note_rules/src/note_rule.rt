@@ -5,6 +5,7 @@ ghost use Rattle.note_rules.specs.Rules.{place_rules, note_rules, speed_rules, v
 
 use header::VoiceHeader;
 use note_frame::{Key, Playing};
+use refusal::Refusal;
 
 // A key-up later than the frames filled.
 fn key_up_ahead(key: Key, frames: u32) -> bool
@@ -16,62 +17,49 @@ fn key_up_ahead(key: Key, frames: u32) -> bool
     }
 }
 
-// 32 and 33, or 0.
-fn speed_refusal(step: u32, rate: u32) -> u8
+// 32 and 33.
+fn speed_refusal(step: u32, rate: u32) -> Result<(), Refusal>
     ensures { result ≡ first_holding (speed_rules step rate) }
 {
-    if step == 0 {
-        return refusal::STEP;
+    if step == 0 || 16777216 < step {
+        return Err(Refusal::Step);
     }
-    if 16777216 < step {
-        return refusal::STEP;
+    if rate == 0 || 192000 < rate {
+        return Err(Refusal::Rate);
     }
-    if rate == 0 {
-        return refusal::RATE;
-    }
-    if 192000 < rate {
-        return refusal::RATE;
-    }
-    0
+    Ok(())
 }
 
-// 44, or 0.
-fn velocity_refusal(velocity: u8) -> u8
+// 44.
+fn velocity_refusal(velocity: u8) -> Result<(), Refusal>
     ensures { result ≡ first_holding (velocity_rules velocity) }
 {
-    if velocity == 0 {
-        return refusal::VELOCITY;
+    if velocity == 0 || 127 < velocity {
+        return Err(Refusal::Velocity);
     }
-    if 127 < velocity {
-        return refusal::VELOCITY;
-    }
-    0
+    Ok(())
 }
 
-// 25, or 0.
-pub fn places_refusal(places: usize) -> u8
+// 25.
+pub fn places_refusal(places: usize) -> Result<(), Refusal>
     ensures { result ≡ first_holding (place_rules places) }
 {
     if places % 2 == 1 {
-        return refusal::ODD_PLACES;
+        return Err(Refusal::OddPlaces);
     }
-    0
+    Ok(())
 }
 
-// 31 to 34 and 44, of a note with so many frames filled; or 0.
-pub fn note_refusal(h: VoiceHeader, n: Playing, frames: u32) -> u8
+// 31 to 34 and 44, of a note with so many frames filled.
+pub fn note_refusal(h: VoiceHeader, n: Playing, frames: u32) -> Result<(), Refusal>
     ensures { result ≡ first_holding (note_rules h n frames) }
 {
     if !h.has_octave(n.octave) {
-        return refusal::NO_OCTAVE;
+        return Err(Refusal::NoOctave);
     }
-    let of_speed = speed_refusal(n.step, n.rate);
-    if of_speed != 0 {
-        return of_speed;
-    }
-    let key = n.key;
-    if key_up_ahead(key, frames) {
-        return refusal::KEY_UP;
+    speed_refusal(n.step, n.rate)?;
+    if key_up_ahead(n.key, frames) {
+        return Err(Refusal::KeyUp);
     }
     velocity_refusal(n.velocity)
 }

@@ -4,7 +4,7 @@ ghost use Rattle.refusal.specs.Rules.{first_holding};
 ghost use Rattle.header.specs.Octaves.{octave_there};
 ghost use Rattle.sheet.specs.Judge.{judged};
 ghost use Rattle.sheet.specs.Read.{read_sheet};
-ghost use Rattle.sheet.specs.declared.judge.Judged.TheVariants.{Sound};
+ghost use Rattle.std.specs.Prelude.{Ok};
 ghost use Rattle.sheet_layout.specs.Layout.{layout_of};
 ghost use Rattle.sheet_layout.specs.Members.{segments_in, Whole};
 ghost use Rattle.note_path.specs.Path.{joined_length};
@@ -12,6 +12,7 @@ ghost use Rattle.note_rules.specs.Rules.{octave_rules};
 
 use header::VoiceHeader;
 use note_path::sequence_length;
+use refusal::Refusal;
 use sheet_layout::{Layout, sheet_header};
 
 // A sequence that is too long in octave k, where there is one. Compared in the highest octave, to stay within 64 bits.
@@ -30,9 +31,9 @@ fn too_long(h: VoiceHeader, segments: &[u8], k: u8) -> bool
     most < joined
 }
 
-// 24, or 0.
-pub fn octave_refusal(sheet: &[u8], l: Layout, k: u8) -> u8
-    requires { (judged sheet.now ≡ Sound) × (l ≡ layout_of (read_sheet sheet.now)) }
+// 24.
+pub fn octave_refusal(sheet: &[u8], l: Layout, k: u8) -> Result<(), Refusal>
+    requires { (judged sheet.now ≡ Ok tt) × (l ≡ layout_of (read_sheet sheet.now)) }
     ensures { result ≡ first_holding (octave_rules (read_sheet sheet.now) k) }
 {
     let h = sheet_header(sheet);
@@ -40,7 +41,7 @@ pub fn octave_refusal(sheet: &[u8], l: Layout, k: u8) -> u8
     let end = l.fade;
     let segments = &sheet[start..end];
     if too_long(h, segments, k) {
-        return refusal::SEQUENCE_LENGTH;
+        return Err(Refusal::SequenceLength);
     }
-    0
+    Ok(())
 }

@@ -6,7 +6,6 @@
 use Prim.Native.Nat.{ℕ, ◌+◌, ◌-◌, ◌≤◌, ◌<◌}
 use mathlib.Core.Bool.{Bool, true, false, true≢false, cond, ◌&&◌, and-eq-true_iff}
 use mathlib.Core.List.{List}
-use mathlib.Core.Option.{Option, none, some}
 use mathlib.Core.Path.{◌≡◌, refl, ◌∙◌}
 use native.Mathlib.Omega.{arith}
 use borrow.Author.Tests.{le-leb, leb-true, ltb-false}
@@ -29,6 +28,7 @@ use Rattle.note_frame.proofs.ChainLaws.{no_place, no_level}
 use Rattle.note_stage.specs.Block.{stage_level, stage_frame, Timed, run_frame, is_over}
 use Rattle.note_stage.specs.declared.Stage.{Stage}
 use Rattle.note_stage.proofs.PlayheadLaws.{step_later, ms_later}
+use Rattle.std.specs.Prelude.{None, Option, Some}
 
 -- ---- a stage
 
@@ -39,17 +39,17 @@ unfolding stage_frame
 stage_frame_is g path s points segments left right p = refl
 
 module _ (points : List ℕ) (start : ℤ) (ends : Bool) (t : ℕ) where
-  pub stage_held : ends ≡ false → stage_level points start ends t ≡ some (held_to_unity (level_at (points_in points) start t))
+  pub stage_held : ends ≡ false → stage_level points start ends t ≡ Some (held_to_unity (level_at (points_in points) start t))
   unfolding stage_level
   stage_held h = rw h
 
-  pub stage_ends : ends ≡ true → stage_level points start ends t ≡ cond (leb (total_duration (points_in points)) t) none (some (held_to_unity (level_at (points_in points) start t)))
+  pub stage_ends : ends ≡ true → stage_level points start ends t ≡ cond (leb (total_duration (points_in points)) t) None (Some (held_to_unity (level_at (points_in points) start t)))
   unfolding stage_level
   stage_ends h = rw h
 
   -- the level that a cursor says
   level_is : (now : ℕ) (ended : Bool) → now ≡ held_to_unity (level_at (points_in points) start t) → ended ≡ leb (total_duration (points_in points)) t
-      → stage_level points start ends t ≡ cond (ends && ended) none (some now)
+      → stage_level points start ends t ≡ cond (ends && ended) None (Some now)
   unfolding stage_level
   level_is now ended n d = rw (n, d)
 
@@ -58,7 +58,7 @@ module _ (points : List ℕ) (start : ℤ) (ends : Bool) (t : ℕ) where
 -- cursors that have been led to frame p₀
 module _ (g : Gains) (path : Path) (s : Stage) (points segments : List ℕ) (left right : List ℤ) (timed : Timed s) (p₀ : ℕ) (e : EnvelopeCursor) (r : Run)
     (follows : Follows points s.level (ms_since s.rate s.since p₀) e) (reached : Reached path segments (step_of s.step p₀) r) where
-  level_here : (p : ℕ) → p₀ ≤ p → ms_since s.rate s.since p < e.until → stage_level points s.level s.ends (ms_since s.rate s.since p) ≡ cond (s.ends && e.ended) none (some e.now)
+  level_here : (p : ℕ) → p₀ ≤ p → ms_since s.rate s.since p < e.until → stage_level points s.level s.ends (ms_since s.rate s.since p) ≡ cond (s.ends && e.ended) None (Some e.now)
   level_here p h l =
       let t = ms_since s.rate s.since p in
       let later = ms_later timed p₀ p h in
@@ -69,7 +69,7 @@ module _ (g : Gains) (path : Path) (s : Stage) (points segments : List ℕ) (lef
       → stage_frame g path s points segments left right p ≡ run_frame g r e.now left right (step_of s.step p)
   frame_here goes p h a b =
       let q = step_of s.step p in
-      let place : place_of path segments q ≡ some (r.start + (q - r.from)) = (reached_good reached).here q (reached_later reached q (step_later timed p₀ p h)) a in
+      let place : place_of path segments q ≡ Some (r.start + (q - r.from)) = (reached_good reached).here q (reached_later reached q (step_later timed p₀ p h)) a in
       rw (stage_frame_is g path s points segments left right p, place, level_here p h b, not_ended (ltb (step_of s.step p₀) r.until) goes)
     where
       not_ended : (in_run : Bool) → cond in_run (s.ends && e.ended) true ≡ false → (s.ends && e.ended) ≡ false
@@ -90,12 +90,12 @@ module _ (g : Gains) (path : Path) (s : Stage) (points segments : List ℕ) (lef
       let both = (and-eq-true_iff s.ends (leb (total_duration (points_in points)) (ms_since s.rate s.since p₀))).0 past in
       let t = ms_since s.rate s.since p in
       let ended : total_duration (points_in points) ≤ t = omega (arith, leb-true (total_duration (points_in points)) (ms_since s.rate s.since p₀) both.1, ms_later timed p₀ p h) in
-      let no : stage_level points s.level s.ends t ≡ none = stage_ends points s.level s.ends t both.0 ∙ rw (le-leb (total_duration (points_in points)) t ended) in
+      let no : stage_level points s.level s.ends t ≡ None = stage_ends points s.level s.ends t both.0 ∙ rw (le-leb (total_duration (points_in points)) t ended) in
       rw (stage_frame_is g path s points segments left right p, no) (quiet (step_of s.step p) (place_of path segments (step_of s.step p)))
     where
-      quiet : (q : ℕ) (place : Option ℕ) → frame_with g left right q place none ≡ silent
-      quiet q none = no_place g left right q none
-      quiet q (some i) = no_level g left right q i
+      quiet : (q : ℕ) (place : Option ℕ) → frame_with g left right q place None ≡ silent
+      quiet q None = no_place g left right q None
+      quiet q (Some i) = no_level g left right q i
 
   pub rest_over : ms_since s.rate s.since p₀ < e.until → is_over s.ends e r (step_of s.step p₀) ≡ true → (p : ℕ) → p₀ ≤ p → stage_frame g path s points segments left right p ≡ silent
   rest_over told over = go (ltb (step_of s.step p₀) r.until) refl over

@@ -1,7 +1,6 @@
 -- What the code carries through a block within one stage of the envelope, what a block asks, and what it gives. No reader of the
 -- definition of a frame needs it.
-use Rattle.std.specs.Prelude.{ℕ, ◌+◌, ◌-◌, ◌*◌, ◌/◌, ◌≤◌, ◌<◌, ◌^◌, Bool, true, cond, ◌&&◌, List, ◌++◌, ◌≡◌, leb, ltb, ℤ, length, drop}
-use Rattle.std.proofs.Math.Option.{Option, none, some}
+use Rattle.std.specs.Prelude.{ℕ, ◌+◌, ◌-◌, ◌*◌, ◌/◌, ◌≤◌, ◌<◌, ◌^◌, Bool, true, cond, ◌&&◌, List, ◌++◌, ◌≡◌, leb, ltb, ℤ, length, drop, None, Option, Some}
 use Rattle.laws.specs.Put.{Put}
 use Rattle.small_chunks.specs.Pan.{held_to_unity}
 use Rattle.envelope.specs.Envelope.{level_at, total_duration}
@@ -23,7 +22,7 @@ use Rattle.note_stage.specs.declared.Stage.{Stage}
 
 -- the level of a stage at a time, held within 0..65,536, or none where a stage that ends has ended
 unfoldable pub stage_level : List ℕ → ℤ → Bool → ℕ → Option ℕ
-stage_level points start ends t = cond (ends && leb (total_duration (points_in points)) t) none (some (held_to_unity (level_at (points_in points) start t)))
+stage_level points start ends t = cond (ends && leb (total_duration (points_in points)) t) None (Some (held_to_unity (level_at (points_in points) start t)))
 
 -- frame p of a stage
 unfoldable pub stage_frame : Gains → Path → Stage → List ℕ → List ℕ → List ℤ → List ℤ → ℕ → Frame
@@ -72,7 +71,7 @@ pub record Stretched (f : ℕ → Frame) (s : Stage) (until ms m end : ℕ) (h :
 
 -- the frame of step q by the run and the level in hand
 abbrev pub run_frame : Gains → Run → ℕ → List ℤ → List ℤ → ℕ → Frame
-run_frame g r level left right q = frame_with g left right q (some (r.start + (q - r.from))) (some level)
+run_frame g r level left right q = frame_with g left right q (Some (r.start + (q - r.from))) (Some level)
 
 -- the run lies within the samples and, where that matters, within the path's length
 pub record Suits (g : Gains) (r : Run) (level : ℕ) (left right : List ℤ) : Type 0 where
@@ -95,7 +94,7 @@ pub record Playable (g : Gains) (path : Path) (s : Stage) (points segments : Lis
   pub points_whole : Whole 6 6 points
   pub samples_are : path.samples ≡ length left
   pub sides_are : g.stereo ≡ true → length left ≤ length right
-  pub fade_ends : g.fades ≡ true → (q i : ℕ) → place_of path segments q ≡ some i → q < g.path_length
+  pub fade_ends : g.fades ≡ true → (q i : ℕ) → place_of path segments q ≡ Some i → q < g.path_length
   pub timed : Timed s
   pub since_then : s.since ≤ m
   pub in_time : m + d < 2 ^ 32

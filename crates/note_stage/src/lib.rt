@@ -60,6 +60,7 @@ pub fn play(
     let mut h = playhead_at(stage, m);
     let mut e = cursor_at(points, stage.level, h.clock.ms);
     let mut r = run_start(path, segments);
+    // by the playhead, which a turn moves on by a run of frames
     while h.frame < end {
         let q = h.place / 65536;
         e = cursor_to(points, e, h.clock.ms);

@@ -20,7 +20,8 @@ fn step_frame(g: Gains, r: Run, level: u32, q: usize, left: &[i8], right: &[i8])
 }
 
 // Writes frames as long as they lie in the run and at the level in hand, up to the block's end; answers where the block stands then.
-// Nothing is asked of the path or the envelope, and each step's frame is made once.
+// Nothing is asked of the path or the envelope, and each step's frame is made once. The loop goes by the playhead, which a turn moves on
+// by as many frames as the step has, so no range or iterator says it more plainly.
 pub(crate) fn play_run(
     g: Gains,
     stage: Stage,

@@ -29,7 +29,7 @@ pub(crate) fn goes_on(until: usize, ms: usize, end: usize, h: Playhead) -> bool
 }
 
 // Writes f as long as the step is q, up to millisecond `ms` or the block's end; answers where the block stands then. Below one sample a
-// frame a step has several frames.
+// frame a step has several frames. How many there are is known only as the playhead moves, so the loop goes by it.
 pub(crate) fn play_step(
     stage: Stage,
     ms: usize,

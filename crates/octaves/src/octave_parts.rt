@@ -4,36 +4,39 @@ ghost use Rattle.octaves.specs.Part.{part_of, part_at};
 ghost use Rattle.octaves.specs.Octave.{octave_part, repeat_start, repeat_from, one_shot_part, repeat_part};
 
 use crate::part::{Part, part_of};
-use header::{SampleCount, VoiceHeader};
+use header::VoiceHeader;
 
 // Where octave k lies in the samples of a side. Its end is compared by a quotient, to stay within 64 bits.
-pub fn octave_part(h: VoiceHeader, samples: usize, k: u8) -> Part
+pub fn octave_part(h: VoiceHeader, samples: usize, k: u8) -> Option<Part>
     ensures { result ≡ octave_part h samples k }
 {
     let hi = h.hi_octave_samples() as usize;
     if hi == 0 {
         if k == 0 {
-            return Part::At(0, samples);
+            return Some(Part {
+                start: 0,
+                length: samples,
+            });
         }
-        return Part::Absent;
+        return None;
     }
     if 63 < k {
-        return Part::Absent;
+        return None;
     }
     if h.ct_octave <= k {
         if 1 <= k {
-            return Part::Absent;
+            return None;
         }
     }
     let length: usize = 1 << k;
     let before = length - 1;
     let through = length + before;
     if samples / through < hi {
-        return Part::Absent;
+        return None;
     }
     let start = hi * before;
     let n = hi * length;
-    Part::At(start, n)
+    Some(Part { start, length: n })
 }
 
 // Octave k of a side's samples.
@@ -45,56 +48,42 @@ pub fn octave<'a>(h: VoiceHeader, samples: &'a [i8], k: u8) -> &'a [i8]
 }
 
 // Where the repeat part begins in an octave k of n samples, or that its length isn't the header's.
-fn repeat_start(h: VoiceHeader, n: usize, k: u8) -> SampleCount
+fn repeat_start(h: VoiceHeader, n: usize, k: u8) -> Option<u64>
     ensures { result ≡ repeat_start h n k }
 {
-    match h.one_shot_samples(k) {
-        SampleCount::Absent => SampleCount::Absent,
-        SampleCount::Samples(one_shot) => repeat_from(h, n, k, one_shot),
-    }
+    repeat_from(h, n, k, h.one_shot_samples(k)?)
 }
 
 // The same, where the one-shot part's length is known.
-fn repeat_from(h: VoiceHeader, n: usize, k: u8, one_shot: u64) -> SampleCount
+fn repeat_from(h: VoiceHeader, n: usize, k: u8, one_shot: u64) -> Option<u64>
     ensures { result ≡ repeat_from h n k one_shot }
 {
-    match h.repeat_samples(k) {
-        SampleCount::Absent => SampleCount::Absent,
-        SampleCount::Samples(repeat) => {
-            let length = n as u64;
-            if length < one_shot {
-                return SampleCount::Absent;
-            }
-            if length - one_shot != repeat {
-                return SampleCount::Absent;
-            }
-            SampleCount::Samples(one_shot)
-        }
+    let repeat = h.repeat_samples(k)?;
+    let length = n as u64;
+    if length < one_shot {
+        return None;
     }
+    if length - one_shot != repeat {
+        return None;
+    }
+    Some(one_shot)
 }
 
 // Where the one-shot part lies in an octave k of n samples.
-pub fn one_shot_part(h: VoiceHeader, n: usize, k: u8) -> Part
+pub fn one_shot_part(h: VoiceHeader, n: usize, k: u8) -> Option<Part>
     ensures { result ≡ one_shot_part h n k }
 {
-    match repeat_start(h, n, k) {
-        SampleCount::Absent => Part::Absent,
-        SampleCount::Samples(start) => Part::At(0, start as usize),
-    }
+    let length = repeat_start(h, n, k)? as usize;
+    Some(Part { start: 0, length })
 }
 
 // Where the repeat part lies in an octave k of n samples.
-pub fn repeat_part(h: VoiceHeader, n: usize, k: u8) -> Part
+pub fn repeat_part(h: VoiceHeader, n: usize, k: u8) -> Option<Part>
     ensures { result ≡ repeat_part h n k }
 {
-    match repeat_start(h, n, k) {
-        SampleCount::Absent => Part::Absent,
-        SampleCount::Samples(start) => {
-            let at = start as usize;
-            let length = n - at;
-            Part::At(at, length)
-        }
-    }
+    let start = repeat_start(h, n, k)? as usize;
+    let length = n - start;
+    Some(Part { start, length })
 }
 
 // The one-shot part of octave k.

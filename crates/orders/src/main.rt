@@ -1,16 +1,13 @@
 // Puts channels in difference order and restores them, and prints what comes out.
 #![tactic(auto)]
 
-use print::{first_samples, number, refused, samples, say};
-use voice::{Output, VoiceHeader, difference_order, difference_restore};
+use print::{Samples, first, refused};
+use refusal::Refusal;
+use std::io;
+use voice::{VoiceHeader, difference_order, difference_restore};
 
 // A header with this length of the highest of so many octaves.
 fn header(hi: u32, octaves: u8) -> VoiceHeader {
-    say(b", ");
-    number(octaves as u64);
-    say(b" octaves from ");
-    number(hi as u64);
-    say(b" on:");
     VoiceHeader {
         one_shot_hi_samples: hi,
         repeat_hi_samples: 0,
@@ -22,44 +19,43 @@ fn header(hi: u32, octaves: u8) -> VoiceHeader {
     }
 }
 
-fn tell(answer: Output, out: &[i8]) {
+fn tell(rt: &impl Print, answer: Result<usize, Refusal>, out: &[i8]) -> io::Result<()> {
     match answer {
-        Output::Length(n) => first_samples(out, n, true),
-        Output::Refused(n) => refused(n),
+        Ok(n) => println!(rt; "{}", Samples(first(out, n))),
+        Err(refusal) => refused(rt, refusal),
     }
-    say(b"\n");
 }
 
-fn order(hi: u32, octaves: u8, channel: &[i8]) {
-    say(b"difference order of");
-    samples(channel, true);
+fn order(rt: &impl Print, hi: u32, octaves: u8, channel: &[i8]) -> io::Result<()> {
+    print!(rt;
+        "difference order of{}, {octaves} octaves from {hi} on:",
+        Samples(channel)
+    )?;
     let mut out = [0i8; 7];
-    tell(
-        difference_order(header(hi, octaves), channel, &mut out),
-        &out,
-    );
+    let answer = difference_order(header(hi, octaves), channel, &mut out);
+    tell(rt, answer, &out)
 }
 
-fn restore(hi: u32, octaves: u8, values: &[i8]) {
-    say(b"restored from");
-    samples(values, true);
+fn restore(rt: &impl Print, hi: u32, octaves: u8, values: &[i8]) -> io::Result<()> {
+    print!(rt;
+        "restored from{}, {octaves} octaves from {hi} on:",
+        Samples(values)
+    )?;
     let mut out = [0i8; 7];
-    tell(
-        difference_restore(header(hi, octaves), values, &mut out),
-        &out,
-    );
+    let answer = difference_restore(header(hi, octaves), values, &mut out);
+    tell(rt, answer, &out)
 }
 
-fn main() {
-    order(0, 3, &[1, 4, 9, 16, 25]);
-    restore(0, 3, &[1, 5, 9, 3, 7]);
-    order(0, 255, &[127, -128, 127, 0]);
-    restore(0, 255, &[127, -1, 1, -127]);
-    order(1, 3, &[9, 10, 20, -100, 100, 0, 127]);
-    restore(1, 3, &[9, 10, 10, -100, -100, -56, 127]);
-    order(0, 0, &[]);
-    restore(0, 0, &[-128]);
-    order(1, 65, &[]);
-    order(1, 3, &[9, 10, 20]);
-    order(0, 1, &[1, 2, 3, 4, 5, 6, 7, 8]);
+fn main(rt: HostRuntime) -> io::Result<()> {
+    order(&rt, 0, 3, &[1, 4, 9, 16, 25])?;
+    restore(&rt, 0, 3, &[1, 5, 9, 3, 7])?;
+    order(&rt, 0, 255, &[127, -128, 127, 0])?;
+    restore(&rt, 0, 255, &[127, -1, 1, -127])?;
+    order(&rt, 1, 3, &[9, 10, 20, -100, 100, 0, 127])?;
+    restore(&rt, 1, 3, &[9, 10, 10, -100, -100, -56, 127])?;
+    order(&rt, 0, 0, &[])?;
+    restore(&rt, 0, 0, &[-128])?;
+    order(&rt, 1, 65, &[])?;
+    order(&rt, 1, 3, &[9, 10, 20])?;
+    order(&rt, 0, 1, &[1, 2, 3, 4, 5, 6, 7, 8])
 }

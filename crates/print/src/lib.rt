@@ -1,93 +1,48 @@
-// What the programs print, on standard output.
+// What the programs print.
 #![tactic(auto)]
 
-// Standard output's descriptor.
-const STDOUT_FILENO: i32 = 1;
+use refusal::Refusal;
+use std::{fmt, io};
 
-pub fn say(text: &[u8]) {
-    io::write_all(STDOUT_FILENO, text);
-}
+// Bytes, each after a space, in two hex digits.
+#[derive(Clone, Copy)]
+pub struct Bytes<'a>(pub &'a [u8]);
 
-pub fn number(n: u64) {
-    io::print_decimal(STDOUT_FILENO, n);
-}
+// Samples, each after a space, in decimal.
+#[derive(Clone, Copy)]
+pub struct Samples<'a>(pub &'a [i8]);
 
-// A byte, in two hex digits.
-pub fn byte(b: u8) {
-    let b = b as u64;
-    io::print_hex(STDOUT_FILENO, b, 2);
-}
+// Bytes, or samples as bytes, close together, each in two hex digits.
+#[derive(Clone, Copy)]
+pub struct Packed<'a, T>(pub &'a [T]);
 
-// A sample, in decimal.
-pub fn sample(s: i8) {
-    let b = field::byte_of_sample(s);
-    if b < 128 {
-        number(b as u64);
-        return;
-    }
-    say(b"-");
-    number(256 - b as u64);
-}
-
-fn one_byte(b: u8, spaced: bool) {
-    if spaced {
-        say(b" ");
-    }
-    byte(b);
-}
-
-// Only a space parts decimal numbers, so without one a sample is printed as its byte.
-fn one_sample(s: i8, spaced: bool) {
-    if spaced {
-        say(b" ");
-        sample(s);
-        return;
-    }
-    byte(field::byte_of_sample(s));
-}
-
-// Bytes in hex, each after a space or close together.
-pub fn bytes(s: &[u8], spaced: bool) {
-    let mut i = 0;
-    while i < s.len() {
-        one_byte(s[i], spaced);
-        i += 1;
+impl fmt::Display for Bytes<'_> {
+    fn fmt<W: fmt::Write>(&self, f: &mut fmt::Formatter<W>) -> fmt::Result {
+        self.0.iter().try_for_each(|byte| write!(f, " {byte:02x}"))
     }
 }
 
-// Samples, each in decimal after a space, or in hex and close together.
-pub fn samples(s: &[i8], spaced: bool) {
-    let mut i = 0;
-    while i < s.len() {
-        one_sample(s[i], spaced);
-        i += 1;
+impl fmt::Display for Samples<'_> {
+    fn fmt<W: fmt::Write>(&self, f: &mut fmt::Formatter<W>) -> fmt::Result {
+        self.0.iter().try_for_each(|sample| write!(f, " {sample}"))
     }
 }
 
-// The first n bytes of a buffer that was filled.
-pub fn first_bytes(s: &[u8], n: usize, spaced: bool) {
-    if n <= s.len() {
-        bytes(&s[..n], spaced);
+impl<T: fmt::Radix + Copy> fmt::Display for Packed<'_, T> {
+    fn fmt<W: fmt::Write>(&self, f: &mut fmt::Formatter<W>) -> fmt::Result {
+        self.0
+            .iter()
+            .copied()
+            .try_for_each(|value| write!(f, "{value:02x}"))
     }
 }
 
-// The first n samples of a buffer that was filled.
-pub fn first_samples(s: &[i8], n: usize, spaced: bool) {
-    if n <= s.len() {
-        samples(&s[..n], spaced);
-    }
+// The first n of a buffer that was filled.
+pub fn first<T>(buffer: &[T], n: usize) -> &[T] {
+    &buffer[..n.min(buffer.len())]
 }
 
-// A refusal's number, after a space.
-pub fn refused(n: u8) {
-    say(b" refused ");
-    number(n as u64);
-}
-
-pub fn yes_or_no(yes: bool) {
-    if yes {
-        say(b" yes\n");
-    } else {
-        say(b" no\n");
-    }
+// The end of a line that says what a call gave: that it was refused, and by which number.
+pub fn refused(rt: &impl Print, refusal: Refusal) -> io::Result<()> {
+    println!(rt; " refused {}", refusal.number())
 }

@@ -8,35 +8,28 @@ mod input;
 mod read_case;
 mod write_case;
 
-use print::say;
+use std::io;
+use std::io::{ErrorKind, Read};
 
-// One case; whether there was one.
-fn case() -> bool {
-    let op = input::byte();
-    if op == 3 {
-        say(b"tie ");
+// A case, by the byte that says what it is.
+fn case<R: Read>(rt: &impl Print, input: &mut R, kind: u8) -> io::Result<()> {
+    match kind {
+        1 => read_case::run(rt, input, ""),
+        2 => write_case::run(rt, input, ""),
+        3 => write_case::run(rt, input, "tie "),
+        4 => read_case::run(rt, input, "wrap "),
+        5 => write_case::run(rt, input, "wrap "),
+        _ => Err(ErrorKind::InvalidData.into()),
     }
-    if op == 4 || op == 5 {
-        say(b"wrap ");
-    }
-    if op == 1 || op == 4 {
-        read_case::run();
-        return true;
-    }
-    if op == 2 || op == 3 || op == 5 {
-        write_case::run();
-        return true;
-    }
-    false
 }
 
-fn main() {
-    let mut i: usize = 0;
-    while i < 100000 {
-        let more = case();
-        if !more {
-            return;
+fn main(rt: HostRuntime) -> io::Result<()> {
+    let mut input = rt.reader();
+    for _ in 0..u64::MAX {
+        match input::kind(&mut input)? {
+            0 => break,
+            kind => case(&rt, &mut input, kind)?,
         }
-        i += 1;
     }
+    Ok(())
 }

@@ -1,29 +1,26 @@
-// A file read.
+// A file read. Its line begins with a label.
 use crate::input;
-use print::{first_bytes, first_samples, number, say};
-use voice::{Parsed, parse_voice};
+use print::{Packed, first};
+use std::io;
+use std::io::Read;
+use voice::parse_voice;
 
-fn parse(file: &[u8]) {
+fn parse(rt: &impl Print, label: &str, file: &[u8]) -> io::Result<()> {
     let mut sheet = [0u8; 4096];
     let mut left = [0i8; 2048];
     let mut right = [0i8; 2048];
     match parse_voice(file, &mut sheet, &mut left, &mut right) {
-        Parsed::Refused(n) => number(n as u64),
-        Parsed::Voice(l) => {
-            say(b"voice ");
-            first_bytes(&sheet, l.sheet, false);
-            say(b". ");
-            first_samples(&left, l.left, false);
-            say(b". ");
-            first_samples(&right, l.right, false);
-            say(b".");
-        }
+        Err(refusal) => println!(rt; "{label}{}", refusal.number()),
+        Ok(l) => println!(rt;
+            "{label}voice {}. {}. {}.",
+            Packed(first(&sheet, l.sheet)),
+            Packed(first(&left, l.left)),
+            Packed(first(&right, l.right))
+        ),
     }
-    say(b"\n");
 }
 
-pub fn run() {
+pub fn run<R: Read>(rt: &impl Print, input: &mut R, label: &str) -> io::Result<()> {
     let mut file = [0u8; 1024];
-    let n = input::slice(&mut file);
-    parse(&file[..n]);
+    parse(rt, label, input::slice(input, &mut file)?)
 }

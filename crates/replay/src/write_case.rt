@@ -1,27 +1,24 @@
-// A file written.
+// A file written. Its line begins with a label.
 use crate::input;
-use print::{first_bytes, number, say};
-use voice::{Output, encode_voice};
+use print::{Packed, first};
+use std::io;
+use std::io::Read;
+use voice::encode_voice;
 
-fn encode(sheet: &[u8], left: &[i8], right: &[i8]) {
+fn encode(rt: &impl Print, label: &str, sheet: &[u8], left: &[i8], right: &[i8]) -> io::Result<()> {
     let mut file = [0u8; 4096];
     match encode_voice(sheet, left, right, &mut file) {
-        Output::Refused(n) => number(n as u64),
-        Output::Length(n) => {
-            say(b"file ");
-            first_bytes(&file, n, false);
-            say(b".");
-        }
+        Err(refusal) => println!(rt; "{label}{}", refusal.number()),
+        Ok(n) => println!(rt; "{label}file {}.", Packed(first(&file, n))),
     }
-    say(b"\n");
 }
 
-pub fn run() {
+pub fn run<R: Read>(rt: &impl Print, input: &mut R, label: &str) -> io::Result<()> {
     let mut sheet = [0u8; 1024];
     let mut left = [0i8; 1024];
     let mut right = [0i8; 1024];
-    let s = input::slice(&mut sheet);
-    let l = input::samples(&mut left);
-    let r = input::samples(&mut right);
-    encode(&sheet[..s], &left[..l], &right[..r]);
+    let sheet = input::slice(input, &mut sheet)?;
+    let left = input::samples(input, &mut left)?;
+    let right = input::samples(input, &mut right)?;
+    encode(rt, label, sheet, left, right)
 }

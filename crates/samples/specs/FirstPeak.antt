@@ -1,7 +1,6 @@
 -- What is promised of the peak. It is proved as `first_peak`.
-use Rattle.std.specs.Prelude.{List, [], ◌∷◌, ◌≡◌, ℕ, ◌≤◌, ◌<◌, ℤ, pos, negsuc, length}
+use Rattle.std.specs.Prelude.{List, [], ◌∷◌, ◌≡◌, ℕ, ◌≤◌, ◌<◌, ℤ, pos, negsuc, length, None, Some}
 use Rattle.samples.specs.Peak.{magnitude_at, peak_of}
-use Rattle.samples.specs.declared.loudness.Loudest.TheVariants.{Empty, At}
 
 -- place i has the largest magnitude, and is the first that has it
 pub record IsFirstPeak (samples : List ℤ) (magnitude i : ℕ) : Type 0 where
@@ -17,16 +16,16 @@ pub record IsFirstPeak (samples : List ℤ) (magnitude i : ℕ) : Type 0 where
 -- what an answer says and when it is given, and three examples
 pub record FirstPeak : Type 0 where
   -- what is found is the first peak
-  pub found : (samples : List ℤ) (magnitude i : ℕ) → peak_of samples ≡ At magnitude i → IsFirstPeak samples magnitude i
+  pub found : (samples : List ℤ) (magnitude i : ℕ) → peak_of samples ≡ Some (record { magnitude = magnitude; place = i }) → IsFirstPeak samples magnitude i
   -- and the first peak is found
-  pub finds : (samples : List ℤ) (magnitude i : ℕ) → IsFirstPeak samples magnitude i → peak_of samples ≡ At magnitude i
+  pub finds : (samples : List ℤ) (magnitude i : ℕ) → IsFirstPeak samples magnitude i → peak_of samples ≡ Some (record { magnitude = magnitude; place = i })
   -- empty is answered only where there are no samples
-  pub empty : (samples : List ℤ) → peak_of samples ≡ Empty → length samples ≡ 0
+  pub empty : (samples : List ℤ) → peak_of samples ≡ None → length samples ≡ 0
   -- and where there are none it is
-  pub no_samples : (samples : List ℤ) → length samples ≡ 0 → peak_of samples ≡ Empty
+  pub no_samples : (samples : List ℤ) → length samples ≡ 0 → peak_of samples ≡ None
   -- of 5, -7, 7, -7 the first of three as loud; `negsuc 6` is -7
-  pub first_of_equals : peak_of (pos 5 ∷ negsuc 6 ∷ pos 7 ∷ negsuc 6 ∷ []) ≡ At 7 1
+  pub first_of_equals : peak_of (pos 5 ∷ negsuc 6 ∷ pos 7 ∷ negsuc 6 ∷ []) ≡ Some (record { magnitude = 7; place = 1 })
   -- -128 is louder than 127
-  pub lowest : peak_of (pos 127 ∷ negsuc 127 ∷ []) ≡ At 128 1
+  pub lowest : peak_of (pos 127 ∷ negsuc 127 ∷ []) ≡ Some (record { magnitude = 128; place = 1 })
   -- silence has its peak at its first sample
-  pub silence : peak_of (pos 0 ∷ pos 0 ∷ []) ≡ At 0 0
+  pub silence : peak_of (pos 0 ∷ pos 0 ∷ []) ≡ Some (record { magnitude = 0; place = 0 })

@@ -1,13 +1,11 @@
 // The loudest sample, at its first place.
-ghost use Rattle.std.specs.Prelude.{◌≡◌, ◌≤◌, ◌<◌, max, nat_abs, length};
-ghost use Rattle.samples.specs.Peak.{magnitude_at, loudest, first_with, peak_of};
+ghost use Rattle.std.specs.Prelude.{◌≡◌, ◌≤◌, ◌==◌, nat_abs, length, position};
+ghost use Rattle.samples.specs.Peak.{loudest, first_with, peak_of};
 
-#[derive(Clone, Copy)]
-pub enum Loudest {
-    // There are no samples.
-    Empty,
-    // The largest magnitude, and the first place that has it.
-    At(u8, usize),
+#[derive(Clone, Copy, Debug, PartialEq, Eq)]
+pub struct Loudest {
+    pub magnitude: u8,
+    pub place: usize,
 }
 
 // How many samples are looked at together. In such a block only the magnitude is asked for, which a processor can do for many samples at
@@ -21,102 +19,51 @@ struct LoudestBlock {
     start: usize,
 }
 
-// A sample's magnitude: 128 for -128.
-fn magnitude(s: i8) -> u8
-    ensures { result ≡ nat_abs s }
-{
-    if s < 0 { (!s) as u8 + 1 } else { s as u8 }
-}
-
-// The magnitude of the sample at a place.
-fn magnitude_at(samples: &[i8], i: usize) -> u8
-    requires { i < length samples.now }
-    ensures { result ≡ magnitude_at samples.now i }
-{
-    magnitude(samples[i])
-}
-
-// The larger of two magnitudes.
-fn larger(a: u8, b: u8) -> u8
-    ensures { result ≡ max a b }
-{
-    if a < b {
-        return b;
-    }
-    a
-}
-
 // The largest magnitude of samples; 0 where there are none.
 fn largest_magnitude(samples: &[i8]) -> u8
     ensures { result ≡ loudest samples.now }
 {
-    let mut best = 0;
-    let mut i = 0;
-    while i < samples.len() {
-        best = larger(best, magnitude_at(samples, i));
-        i += 1;
+    let mut best = 0u8;
+    for s in samples {
+        best = best.max(s.unsigned_abs());
     }
     best
-}
-
-// Where the block that begins at a place ends, of n samples in all.
-fn block_end(start: usize, n: usize) -> usize
-    requires { start < n }
-    ensures { (start < result) × (result ≤ n) }
-{
-    if n - start < BLOCK {
-        return n;
-    }
-    start + BLOCK
 }
 
 // The first of the loudest blocks: no sample before it is as loud.
 fn loudest_block(samples: &[i8]) -> LoudestBlock
     ensures magnitude { result.magnitude ≡ loudest samples.now }
     ensures start { result.start ≤ first_with (loudest samples.now) samples.now }
+    ensures inside { result.start ≤ length samples.now }
 {
-    let n = samples.len();
-    let mut best = 0;
+    let mut best = LoudestBlock {
+        magnitude: 0,
+        start: 0,
+    };
     let mut start = 0;
-    let mut i = 0;
-    while i < n {
-        let end = block_end(i, n);
-        let here = largest_magnitude(&samples[i..end]);
-        if best < here {
-            best = here;
-            start = i;
+    for block in samples.chunks(BLOCK) {
+        let magnitude = largest_magnitude(block);
+        if best.magnitude < magnitude {
+            best = LoudestBlock { magnitude, start };
         }
-        i = end;
+        start += block.len();
     }
-    LoudestBlock {
-        magnitude: best,
-        start,
-    }
+    best
 }
 
-// The first place whose sample has magnitude m, which none before the start has.
-fn first_with(samples: &[i8], m: u8, start: usize) -> usize
-    requires { start ≤ first_with m samples.now }
-    ensures { result ≡ first_with m samples.now }
+// The first place whose sample has magnitude m.
+fn first_with(samples: &[i8], m: u8) -> Option<usize>
+    ensures { result ≡ position (λ s. nat_abs s == m) samples.now }
 {
-    let mut i = start;
-    while i < samples.len() {
-        if magnitude_at(samples, i) == m {
-            return i;
-        }
-        i += 1;
-    }
-    i
+    samples.iter().position(|s| s.unsigned_abs() == m)
 }
 
 // The peak of samples: the largest magnitude and the first place that has it.
-pub fn peak(samples: &[i8]) -> Loudest
+pub fn peak(samples: &[i8]) -> Option<Loudest>
     ensures { result ≡ peak_of samples.now }
 {
-    if samples.len() == 0 {
-        return Loudest::Empty;
-    }
-    let block = loudest_block(samples);
-    let place = first_with(samples, block.magnitude, block.start);
-    Loudest::At(block.magnitude, place)
+    let LoudestBlock { magnitude, start } = loudest_block(samples);
+    let past = first_with(&samples[start..], magnitude)?;
+    let place = start + past;
+    Some(Loudest { magnitude, place })
 }

@@ -1,55 +1,46 @@
 // Raw samples: each byte is one, signed.
 ghost use Rattle.std.specs.Prelude.{◌≡◌, map, ◌≤◌, length};
 ghost use Rattle.laws.specs.Buffer.{written};
-ghost use Rattle.refusal.specs.Outcome.{gives, answer, buffer_after};
+ghost use Rattle.refusal.specs.Outcome.{answer, buffer_after};
+ghost use Rattle.std.specs.Prelude.{Ok};
 ghost use Rattle.field.specs.Signed.{sample_of, byte_of};
 
-use refusal::Output;
+use refusal::Refusal;
 
-fn copy_to_samples(body: &[u8], out: &mut [i8])
-    requires { length body.now ≤ length out.old }
-    ensures { out.new ≡ written (map sample_of body.now) out.old }
+// Each element of a list converted, at the front of `out`; 20 where they don't fit.
+fn convert_into<A: Copy, B: Copy, F: Fn(A) -> B>(
+    convert: F,
+    from: &[A],
+    out: &mut [B],
+) -> Result<usize, Refusal>
+    ghost f: { A → B }
+    requires callable { F.IsAlwaysCallable convert }
+    requires converts { (x : A) (y : B) → F.post convert x y → y ≡ f x }
+    ensures result { result ≡ answer (Ok (map f from.now)) (length out.old) }
+    ensures buffer { out.new ≡ buffer_after (Ok (map f from.now)) out.old }
 {
-    let mut i = 0;
-    while i < body.len() {
-        out[i] = field::sample_of_byte(body[i]);
-        i += 1;
+    let n = from.len();
+    if out.len() < n {
+        return Err(Refusal::BufferShort);
     }
-}
-
-fn copy_to_bytes(samples: &[i8], out: &mut [u8])
-    requires { length samples.now ≤ length out.old }
-    ensures { out.new ≡ written (map byte_of samples.now) out.old }
-{
-    let mut i = 0;
-    while i < samples.len() {
-        out[i] = field::byte_of_sample(samples[i]);
-        i += 1;
+    for (i, x) in from.iter().enumerate() {
+        out[i] = convert(*x);
     }
+    Ok(n)
 }
 
 // The samples of raw bytes; 20 where they don't fit.
-pub fn decode_raw(body: &[u8], out: &mut [i8]) -> Output
-    ensures result { result ≡ answer (gives (map sample_of body.now)) (length out.old) }
-    ensures buffer { out.new ≡ buffer_after (gives (map sample_of body.now)) out.old }
+pub fn decode_raw(body: &[u8], out: &mut [i8]) -> Result<usize, Refusal>
+    ensures result { result ≡ answer (Ok (map sample_of body.now)) (length out.old) }
+    ensures buffer { out.new ≡ buffer_after (Ok (map sample_of body.now)) out.old }
 {
-    let n = body.len();
-    if out.len() < n {
-        return Output::Refused(refusal::BUFFER_SHORT);
-    }
-    copy_to_samples(body, out);
-    Output::Length(n)
+    convert_into(|byte| field::sample_of_byte(byte), body, out)
 }
 
 // The raw bytes of samples; 20 where they don't fit.
-pub fn encode_raw(samples: &[i8], out: &mut [u8]) -> Output
-    ensures result { result ≡ answer (gives (map byte_of samples.now)) (length out.old) }
-    ensures buffer { out.new ≡ buffer_after (gives (map byte_of samples.now)) out.old }
+pub fn encode_raw(samples: &[i8], out: &mut [u8]) -> Result<usize, Refusal>
+    ensures result { result ≡ answer (Ok (map byte_of samples.now)) (length out.old) }
+    ensures buffer { out.new ≡ buffer_after (Ok (map byte_of samples.now)) out.old }
 {
-    let n = samples.len();
-    if out.len() < n {
-        return Output::Refused(refusal::BUFFER_SHORT);
-    }
-    copy_to_bytes(samples, out);
-    Output::Length(n)
+    convert_into(|sample| field::byte_of_sample(sample), samples, out)
 }

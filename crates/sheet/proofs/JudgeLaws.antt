@@ -11,7 +11,6 @@ use mathlib.Core.Path.{◌≡◌, refl, sym, ap}
 use native.Mathlib.Omega.{arith}
 use Rattle.laws.proofs.Cases.{neither}
 use Rattle.laws.proofs.Table.{below}
-use Rattle.refusal.specs.Numbers.{record_wrong, text_ill_formed}
 use Rattle.sheet.proofs.RecordLaws.{Whole}
 use Rattle.sheet.proofs.TextLaws.{texts_left, text_byte, text_begins, text_ends, no_text_begins, texts_same}
 use Rattle.sheet.specs.Judge.{texts_well_formed, judged_items}
@@ -19,15 +18,17 @@ use Rattle.sheet.specs.Order.{earliest, latest, belongs, misplaced, group_after,
 use Rattle.sheet.specs.Read.{leading, groups}
 use Rattle.sheet.specs.Record.{RecordItem, entry, bad, records, body_length}
 use Rattle.sheet.specs.TextState.{Texts, no_texts, texts_after, all_well}
-use Rattle.sheet.specs.declared.judge.Judged.{Judged}
-use Rattle.sheet.specs.declared.judge.Judged.TheVariants.{Sound, Refused}
+use Rattle.refusal.specs.declared.Refusal.TheVariants.{RecordWrong, TextIllFormed}
+use Rattle.refusal.specs.Outcome.{Outcome, accepted, if_accepted}
+use Rattle.refusal.specs.declared.Refusal.{Refusal}
+use Rattle.std.specs.Prelude.{Err, Ok, ⊤}
 
--- the number of the first bad record, else 17 where not all texts are well-formed
-abbrev pub verdict : ℕ → Bool → Judged
-verdict number well = cond (eqb number 0) (cond well Sound (Refused text_ill_formed)) (Refused number)
+-- the refusal of the first bad record, else 17 where not all texts are well-formed
+abbrev pub verdict : Outcome ⊤ → Bool → Outcome ⊤
+verdict wrong well = if_accepted wrong (cond well accepted (Err TextIllFormed))
 
 -- the verdict of what is left, with this group in hand and the texts so far
-unfoldable pub judged_from : ℕ → Texts → List RecordItem → Judged
+unfoldable pub judged_from : ℕ → Texts → List RecordItem → Outcome ⊤
 judged_from group t items = verdict (first_wrong group items) (texts_left t items)
 
 -- ---- a record 11 is misplaced where no text is in hand, so nothing is left of one
@@ -35,7 +36,7 @@ judged_from group t items = verdict (first_wrong group items) (texts_left t item
 outside : (g : ℕ) → g < 10 → (t : Texts) (items : List RecordItem) → judged_from g t items ≡ verdict (first_wrong g items) (all_well t && texts_well_formed (groups 10 11 items))
 unfolding judged_from first_wrong leading
 outside g h t [] = refl
-outside g h t (bad number ∷ items) = refl
+outside g h t (bad refusal ∷ items) = refl
 outside g h t (entry k body ∷ items) = go (eqb k 11) refl
   where
     go : (u : Bool) → eqb k 11 ≡ u
@@ -63,16 +64,16 @@ judged_start items = outside 0 (omega arith) no_texts items
 -- ---- at the end, with what is left of the sheet
 
 module _ (g : ℕ) (t : Texts) {items : List RecordItem} where
-  pub judged_cut : (number : ℕ) → items ≡ bad number ∷ [] → (number ≡ 0 → ⊥) → judged_from g t items ≡ Refused number
+  pub judged_cut : (refusal : Refusal) → items ≡ bad refusal ∷ [] → judged_from g t items ≡ Err refusal
   unfolding judged_from first_wrong
-  judged_cut number e h = rw (e, ne_eqb number 0 h)
+  judged_cut refusal e = rw e
 
   module _ (e : items ≡ []) where
-    pub judged_headless : g ≡ 0 → judged_from g t items ≡ Refused record_wrong
+    pub judged_headless : g ≡ 0 → judged_from g t items ≡ Err RecordWrong
     unfolding judged_from first_wrong
     judged_headless h = rw (e, h)
 
-    pub judged_end : (g ≡ 0 → ⊥) → judged_from g t items ≡ verdict 0 (all_well t)
+    pub judged_end : (g ≡ 0 → ⊥) → judged_from g t items ≡ verdict accepted (all_well t)
     unfolding judged_from first_wrong leading groups
     judged_end h = rw (e, ne_eqb g 0 h, and-true (all_well t))
 
@@ -100,12 +101,12 @@ abbrev pub value_in : List ℕ → ℕ → ℕ → ℕ
 value_in s start next = get_or (body_in s start next) 0 0
 
 module _ (g : ℕ) (t : Texts) {s : List ℕ} {at k start next : ℕ} (w : Whole s at k start next) where
-  pub judged_misplaced : misplaced g k ≡ true → judged_from g t (records (drop at s)) ≡ Refused record_wrong
+  pub judged_misplaced : misplaced g k ≡ true → judged_from g t (records (drop at s)) ≡ Err RecordWrong
   unfolding judged_from first_wrong
   judged_misplaced p = rw (w.items, p)
 
   module _ (p : misplaced g k ≡ false) where
-    pub judged_value : value_wrong k (value_in s start next) ≡ true → judged_from g t (records (drop at s)) ≡ Refused record_wrong
+    pub judged_value : value_wrong k (value_in s start next) ≡ true → judged_from g t (records (drop at s)) ≡ Err RecordWrong
     unfolding judged_from first_wrong
     judged_value v = rw (w.items, p, v)
 

@@ -1,6 +1,5 @@
 -- The voices that a sheet can hold: every number fits its field, texts have a key and are UTF-8.
-use Rattle.std.specs.Prelude.{◌^◌, ◌≤◌, ◌<◌, true, List, [], ◌∷◌, ◌≡◌}
-use Rattle.std.proofs.Math.Option.{Option, none, some}
+use Rattle.std.specs.Prelude.{◌^◌, ◌≤◌, ◌<◌, true, List, [], ◌∷◌, ◌≡◌, None, Option, Some}
 use Rattle.std.specs.Int.{w32}
 use Rattle.std.proofs.Common.{SFits}
 use Rattle.text_utf8.specs.Utf8.{well_formed}
@@ -18,8 +17,8 @@ All P (a ∷ as') = P a × All P as'
 
 -- of a value that may be missing, where it is there
 abbrev pub IfThere : {A : Type 0} → (A → Type 0) → Option A → Type 0
-IfThere P none = Unit
-IfThere P (some a) = P a
+IfThere P None = Unit
+IfThere P (Some a) = P a
 
 -- a position of 32 bits, signed
 pub record PanFits (p : Pan) : Type 0 where

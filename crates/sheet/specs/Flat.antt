@@ -1,6 +1,5 @@
 -- A voice in flat form: records of one byte of kind and a body, laid out as in its chunk but for kinds 2, 10 and 11, which have one byte.
-use Rattle.std.specs.Prelude.{ℕ, List, [], ◌∷◌, ◌++◌}
-use Rattle.std.proofs.Math.Option.{Option, none, some}
+use Rattle.std.specs.Prelude.{ℕ, List, [], ◌∷◌, ◌++◌, None, Option, Some}
 use Rattle.laws.specs.Walk.{each}
 use Rattle.header.specs.Header.{header_bytes}
 use Rattle.small_chunks.specs.Channel.{channel_value_of}
@@ -13,8 +12,8 @@ use Rattle.sheet.specs.Voice.{Text, Voice}
 
 -- what may be missing
 abbrev pub if_there : {A : Type 0} → (A → List ℕ) → Option A → List ℕ
-if_there f none = []
-if_there f (some a) = f a
+if_there f None = []
+if_there f (Some a) = f a
 
 -- 6: a point
 abbrev pub flat_point : EgPoint → List ℕ

@@ -1,8 +1,9 @@
 -- Which record may follow which, and the first that is wrong.
-use Rattle.std.specs.Prelude.{ℕ, eqb, ltb, get_or, Bool, cond, not, ◌&&◌, ◌||◌, List, [], ◌∷◌}
-use Rattle.refusal.specs.Numbers.{record_wrong}
+use Rattle.std.specs.Prelude.{ℕ, eqb, ltb, get_or, Bool, cond, not, ◌&&◌, ◌||◌, List, [], ◌∷◌, Err, ⊤}
 use Rattle.small_chunks.specs.Channel.{is_channel}
 use Rattle.sheet.specs.Record.{RecordItem, entry, bad}
+use Rattle.refusal.specs.Outcome.{Outcome, accepted}
+use Rattle.refusal.specs.declared.Refusal.TheVariants.{RecordWrong}
 
 -- The group in hand is named by the kind that opened it: 1 header, 2 channel, 3 pan, 4 attack, 5 release, 7 sequence, 9 fade,
 -- 10 text, and 0 before the header. Kinds 6, 8 and 11 belong to the group in hand. A kind may come where the group in hand is
@@ -35,9 +36,9 @@ text_known v = ltb 0 v && ltb v 6
 unfoldable pub value_wrong : ℕ → ℕ → Bool
 value_wrong kind v = (eqb kind 2 && not (is_channel v)) || (eqb kind 10 && not (text_known v))
 
--- the number of the first record that is cut or of unknown kind, or misplaced or of a wrong value (16); 16 where there is no header; else 0
-unfoldable pub first_wrong : ℕ → List RecordItem → ℕ
-first_wrong group [] = cond (eqb group 0) record_wrong 0
-first_wrong group (bad number ∷ items) = number
+-- the refusal of the first record that is cut or of unknown kind, or misplaced or of a wrong value (16); 16 where there is no header
+unfoldable pub first_wrong : ℕ → List RecordItem → Outcome ⊤
+first_wrong group [] = cond (eqb group 0) (Err RecordWrong) accepted
+first_wrong group (bad refusal ∷ items) = Err refusal
 first_wrong group (entry kind body ∷ items) =
-    cond (misplaced group kind || value_wrong kind (get_or body 0 0)) record_wrong (first_wrong (group_after group kind) items)
+    cond (misplaced group kind || value_wrong kind (get_or body 0 0)) (Err RecordWrong) (first_wrong (group_after group kind) items)

@@ -1,6 +1,5 @@
 -- What a sheet's records say: the voice. Records that open a group carry the members that follow them.
-use Rattle.std.specs.Prelude.{ℕ, eqb, get_or, cond, List, [], ◌∷◌, map}
-use Rattle.std.proofs.Math.Option.{Option, none, some}
+use Rattle.std.specs.Prelude.{ℕ, eqb, get_or, cond, List, [], ◌∷◌, map, Err, None, Ok, Option, Some}
 use Rattle.laws.specs.Walk.{each}
 use Rattle.header.specs.Header.{header_of}
 use Rattle.small_chunks.specs.Channel.{channel_of}
@@ -8,15 +7,14 @@ use Rattle.small_chunks.specs.Pan.{pan_of}
 use Rattle.small_chunks.specs.Envelope.{point_of}
 use Rattle.small_chunks.specs.Sequence.{segment_of, fade_of}
 use Rattle.small_chunks.specs.declared.channel.ChannelAssignment.{ChannelAssignment}
-use Rattle.small_chunks.specs.declared.channel.ParsedChannel.{ParsedChannel}
-use Rattle.small_chunks.specs.declared.channel.ParsedChannel.TheVariants.{Parsed, Refused}
 use Rattle.sheet.specs.Record.{RecordItem, entry, bad, records}
 use Rattle.sheet.specs.Voice.{Text, Voice}
+use Rattle.refusal.specs.Outcome.{Outcome}
 
 -- the bodies of the records of a kind that stand at the front
 unfoldable pub leading : ℕ → List RecordItem → List (List ℕ)
 leading kind [] = []
-leading kind (bad number ∷ items) = []
+leading kind (bad refusal ∷ items) = []
 leading kind (entry k body ∷ items) = cond (eqb k kind) (body ∷ leading kind items) []
 
 -- a record that opens a group, by its body, and the bodies of the members that follow it
@@ -27,7 +25,7 @@ pub record Group : Type 0 where
 -- the groups that records of a kind open, with members of another kind
 unfoldable pub groups : ℕ → ℕ → List RecordItem → List Group
 groups opens member [] = []
-groups opens member (bad number ∷ items) = []
+groups opens member (bad refusal ∷ items) = []
 groups opens member (entry k body ∷ items) =
     cond (eqb k opens) (record { body = body; members = leading member items } ∷ groups opens member items) (groups opens member items)
 
@@ -37,28 +35,28 @@ bodies kind items = map (λ g. g.body) (groups kind 0 items)
 
 -- the first of a list, where there is one
 abbrev pub first : {A : Type 0} → List A → Option A
-first [] = none
-first (a ∷ as') = some a
+first [] = None
+first (a ∷ as') = Some a
 
 -- what a value that may be missing becomes
 abbrev pub map_option : {A B : Type 0} → (A → B) → Option A → Option B
-map_option f none = none
-map_option f (some a) = some (f a)
+map_option f None = None
+map_option f (Some a) = Some (f a)
 
 -- an assignment that is known
-abbrev pub known_channel : ParsedChannel → Option ChannelAssignment
-known_channel (Parsed c) = some c
-known_channel (Refused number) = none
+abbrev pub known_channel : Outcome ChannelAssignment → Option ChannelAssignment
+known_channel (Ok c) = Some c
+known_channel (Err refusal) = None
 
 -- the assignment of a channel record, where there is one
 abbrev pub record_channel : Option (List ℕ) → Option ChannelAssignment
-record_channel none = none
-record_channel (some body) = known_channel (channel_of (get_or body 0 0))
+record_channel None = None
+record_channel (Some body) = known_channel (channel_of (get_or body 0 0))
 
 -- the first body, or no bytes
 abbrev pub body_of : Option (List ℕ) → List ℕ
-body_of none = []
-body_of (some body) = body
+body_of None = []
+body_of (Some body) = body
 
 -- a text: its key, and its members' bytes joined
 abbrev pub text_in : Group → Text

@@ -1,6 +1,5 @@
 -- What a file says of a voice, its samples aside.
-use Rattle.std.specs.Prelude.{ℕ, List, Bool, true, false}
-use Rattle.std.proofs.Math.Option.{Option, none, some}
+use Rattle.std.specs.Prelude.{ℕ, List, Bool, true, false, None, Option, Some}
 use Rattle.header.specs.declared.voice_header.VoiceHeader.{VoiceHeader}
 use Rattle.small_chunks.specs.declared.channel.ChannelAssignment.{ChannelAssignment}
 use Rattle.small_chunks.specs.declared.channel.ChannelAssignment.TheVariants.{Left, Right, Stereo}
@@ -27,7 +26,7 @@ pub record Voice : Type 0 where
 
 -- two channels, which CHAN alone says; without it there is one
 abbrev pub is_stereo : Option ChannelAssignment → Bool
-is_stereo none = false
-is_stereo (some Left) = false
-is_stereo (some Right) = false
-is_stereo (some Stereo) = true
+is_stereo None = false
+is_stereo (Some Left) = false
+is_stereo (Some Right) = false
+is_stereo (Some Stereo) = true

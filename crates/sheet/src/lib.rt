@@ -5,6 +5,6 @@ mod judge;
 mod record;
 mod write;
 
-pub use judge::{Judged, judge_sheet};
-pub use record::{RecordStep, record_at};
+pub use judge::judge_sheet;
+pub use record::{Record, record_at};
 pub use write::{put_channel, put_text};

@@ -3,7 +3,6 @@
 use Prim.Native.Nat.{ℕ, ◌≤◌, ◌<◌}
 use mathlib.Core.Bool.{false, not, and-eq-true_iff}
 use mathlib.Core.List.{List, [], ◌∷◌}
-use mathlib.Core.Option.{some}
 use mathlib.Core.Path.{◌≡◌, refl, sym, ap, ◌∙◌}
 use native.Mathlib.Omega.{arith}
 use borrow.Author.Tests.{lt-ltb, ltb-true, not-false}
@@ -25,8 +24,6 @@ use Rattle.small_chunks.specs.Envelope.{point_of, point_bytes}
 use Rattle.small_chunks.specs.Sequence.{segment_of, segment_bytes, fade_of, fade_bytes}
 use Rattle.small_chunks.specs.declared.channel.ChannelAssignment.{ChannelAssignment}
 use Rattle.small_chunks.specs.declared.channel.ChannelAssignment.TheVariants.{Left}
-use Rattle.small_chunks.specs.declared.channel.ParsedChannel.{ParsedChannel}
-use Rattle.small_chunks.specs.declared.channel.ParsedChannel.TheVariants.{Parsed, Refused}
 use Rattle.small_chunks.proofs.ChannelLaws.{channel_back, channel_known, channel_assigned}
 use Rattle.small_chunks.proofs.FieldLaws.{point_length, segment_length_lem, pan_length, fade_length, point_back, segment_back, pan_back, fade_back, point_again, segment_again, pan_again, fade_again}
 use Rattle.sheet.specs.Allowed.{PanFits, PointFits, SegmentFits, FadeFits}
@@ -34,6 +31,8 @@ use Rattle.sheet.specs.Read.{known_channel}
 use Rattle.sheet.specs.Order.{text_known, value_wrong}
 use Rattle.sheet_grammar.proofs.OrderLaws.{Correct, Given}
 use Rattle.sheet_grammar.proofs.FormLaws.{Form, field_form, byte_form}
+use Rattle.refusal.specs.Outcome.{Outcome}
+use Rattle.std.specs.Prelude.{Err, Ok, Some}
 
 signed_fits : (l : List ℕ) → Bytes l → SFits w32 (signed32 (big_endian 4 l))
 signed_fits l b = rw (← read_is w32 (big_endian 4 l)) (sfits_to_z (record { fits = number_fits 4 l b }))
@@ -70,15 +69,15 @@ unfolding value_wrong
 assigned v h = channel_assigned v (not-false (is_channel v) (neither (not (is_channel v)) false h).0)
 
 -- the assignment that was read, and any where none was
-abbrev pub assignment : ParsedChannel → ChannelAssignment
-assignment (Parsed c) = c
-assignment (Refused number) = Left
+abbrev pub assignment : Outcome ChannelAssignment → ChannelAssignment
+assignment (Ok c) = c
+assignment (Err refusal) = Left
 
 module _ (v : ℕ) (h : value_wrong 2 v ≡ false) where
-  channel_parsed : channel_of v ≡ Parsed (assigned v h).0
+  channel_parsed : channel_of v ≡ Ok (assigned v h).0
   channel_parsed = ap channel_of (sym (assigned v h).1) ∙ channel_back (assigned v h).0
 
-  pub known_channel_lem : known_channel (channel_of v) ≡ some (assignment (channel_of v))
+  pub known_channel_lem : known_channel (channel_of v) ≡ Some (assignment (channel_of v))
   known_channel_lem = rw channel_parsed
 
   channel_again : channel_value_of (assignment (channel_of v)) ≡ v

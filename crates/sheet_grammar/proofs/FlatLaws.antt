@@ -9,7 +9,6 @@ use Rattle.sheet.specs.Allowed.{All, Allowed}
 use Rattle.sheet.specs.Record.{RecordItem, entry, bad, records}
 use Rattle.sheet.specs.Read.{voice_of}
 use Rattle.sheet.specs.Judge.{judged_items}
-use Rattle.sheet.specs.declared.judge.Judged.TheVariants.{Sound}
 use Rattle.sheet_grammar.proofs.ListLaws.{all_imply}
 use Rattle.sheet_grammar.proofs.RecordLaws.{Whole, OfItem, records_back}
 use Rattle.sheet_grammar.proofs.OrderLaws.{Correct, none_wrong}
@@ -18,6 +17,7 @@ use Rattle.sheet_grammar.proofs.Sections.{sections, sections_all, sections_order
 use Rattle.sheet_grammar.proofs.GroupLaws.{groups_sections}
 use Rattle.sheet_grammar.proofs.Regroup.{groups_in}
 use Rattle.sheet_grammar.proofs.VoiceLaws.{groups_of, flat_bytes, groups_written, texts_well_formed_lem, voice_back}
+use Rattle.std.specs.Prelude.{Ok}
 
 -- a voice's records, kind by kind
 abbrev pub items_of : Voice → List RecordItem
@@ -25,7 +25,7 @@ items_of v = sections openers (groups_of v)
 
 correct_whole : (i : RecordItem) → OfItem Correct i → OfItem Whole i
 correct_whole (entry k b) h = h.whole
-correct_whole (bad n) h = h
+correct_whole (bad refusal) h = h
 
 module _ (v : Voice) (a : Allowed v) where
   groups_listed : All (λ k. Listed Correct k (groups_of v k)) openers
@@ -40,7 +40,7 @@ module _ (v : Voice) (a : Allowed v) where
   items_groups : (k : ℕ) → Opener k → groups_in (items_of v) k ≡ groups_of v k
   items_groups = groups_sections (groups_of v)
 
-  pub flat_judged : judged_items (items_of v) ≡ Sound
+  pub flat_judged : judged_items (items_of v) ≡ Ok tt
   unfolding judged_items
   flat_judged =
       let order = sections_ordered (groups_of v) _ refl groups_listed in

@@ -7,7 +7,6 @@
 use Prim.Native.Nat.{ℕ, ◌≤◌, ◌<◌}
 use mathlib.Core.Bool.{true, false, true≢false}
 use mathlib.Core.List.{List, [], ◌∷◌, ◌++◌, map, append-nil}
-use mathlib.Core.Option.{Option, none, some}
 use mathlib.Core.Path.{◌≡◌, refl, sym, ap, ◌∙◌}
 use native.Mathlib.Omega.{arith}
 use lib.ListN.{length, get_or, take}
@@ -21,6 +20,7 @@ use Rattle.sheet_grammar.proofs.ListLaws.{all_map, map_back}
 use Rattle.sheet_grammar.proofs.OrderLaws.{Correct, Given}
 use Rattle.sheet_grammar.proofs.KindLaws.{member, latest_of}
 use Rattle.sheet_grammar.proofs.Sections.{OfGroup, Listed}
+use Rattle.std.specs.Prelude.{None, Option, Some}
 
 -- a value that fits is written as something `Written`, which reads as that value; and something `Read` reads as a value that
 -- fits, which is written as that thing
@@ -128,8 +128,8 @@ module _ {A : Type 0} {F : A → Type 0} {w : A → List ℕ} {r : List ℕ → 
 
 -- a value that may be missing, as a list
 abbrev pub listed : {A : Type 0} → Option A → List A
-listed none = []
-listed (some a) = a ∷ []
+listed None = []
+listed (Some a) = a ∷ []
 
 module _ {A : Type 0} {F : A → Type 0} {w : A → Group} {r : Group → A} (k : ℕ) (f : Form F (OfGroup Correct k) (OfGroup Given k) w r) where
   -- a kind that may come again
@@ -146,12 +146,12 @@ module _ {A : Type 0} {F : A → Type 0} {w : A → Group} {r : Group → A} (k 
   -- one that may not
   module _ (late : latest_of k < k) where
     written_once : (o : Option A) → IfThere F o → Listed Correct k (map w (listed o))
-    written_once none h = record { once = λ p. omega arith; each_is = tt }
-    written_once (some a) h = record { once = λ p. omega arith; each_is = (f.written a h, tt) }
+    written_once None h = record { once = λ p. omega arith; each_is = tt }
+    written_once (Some a) h = record { once = λ p. omega arith; each_is = (f.written a h, tt) }
 
     back_once : (o : Option A) → IfThere F o → map_option r (first (map w (listed o))) ≡ o
-    back_once none h = refl
-    back_once (some a) h = ap some (f.back a h)
+    back_once None h = refl
+    back_once (Some a) h = ap Some (f.back a h)
 
     again_once : (gs : List Group) → Listed Given k gs → map w (listed (map_option r (first gs))) ≡ gs
     again_once [] h = refl

@@ -14,11 +14,14 @@ use lib.Seq.{take_at, drop_at}
 use Rattle.field.specs.BigEndian.{Bytes}
 use Rattle.laws.specs.Walk.{each}
 use Rattle.field.proofs.BigEndianLaws.{bytes_tail, bytes_take, bytes_drop}
-use Rattle.refusal.specs.Numbers.{record_wrong}
 use Rattle.sheet.specs.Allowed.{All}
 use Rattle.sheet.specs.Record.{RecordItem, entry, records}
 use Rattle.sheet.specs.Order.{belongs, misplaced, group_after, value_wrong, first_wrong}
 use Rattle.sheet_grammar.proofs.RecordLaws.{Whole, OfItem, bytes_of, Cut, done, stop, next, records_cut}
+use Rattle.refusal.specs.declared.Refusal.TheVariants.{RecordWrong}
+use Rattle.refusal.specs.Outcome.{accepted}
+use Rattle.std.specs.Prelude.{Err, Ok}
+use Rattle.laws.proofs.Cases.{impossible}
 
 -- a record that is correct by itself
 pub record Correct (k : ℕ) (b : List ℕ) : Type 0 where
@@ -39,7 +42,7 @@ pub data Ordered : ℕ → List RecordItem → Type 0 where
 pub onward : (g k : ℕ) (b : List ℕ) (t : Bool) {items : List RecordItem} → misplaced g k ≡ false → belongs k ≡ t → Ordered (cond t g k) items → Ordered g (entry k b ∷ items)
 onward g k b t {items} p e o = more p (subst (λ (u : Bool). Ordered (cond u g k) items) (sym e) o)
 
-pub none_wrong : {g : ℕ} {items : List RecordItem} → Ordered g items → All (OfItem Correct) items → first_wrong g items ≡ 0
+pub none_wrong : {g : ℕ} {items : List RecordItem} → Ordered g items → All (OfItem Correct) items → first_wrong g items ≡ Ok tt
 unfolding first_wrong
 none_wrong {g} (end h) r = rw (ne_eqb g 0 (λ e. omega arith))
 none_wrong (more p o) r = rw (p, r.0.value) (none_wrong o r.1)
@@ -50,14 +53,14 @@ pub record Accepted (g : ℕ) (s : List ℕ) (items : List RecordItem) : Type 0 
   pub given : All (OfItem Given) items
   pub back : each bytes_of items ≡ s
 
-accepted_end : (g : ℕ) (t : Bool) → eqb g 0 ≡ t → cond t record_wrong 0 ≡ 0 → Accepted g [] []
-accepted_end g true e w = absurd (omega arith)
+accepted_end : (g : ℕ) (t : Bool) → eqb g 0 ≡ t → cond t (Err RecordWrong) accepted ≡ Ok tt → Accepted g [] []
+accepted_end g true e w = impossible cc
 accepted_end g false e w = record { ordered = end {g = g} (omega (arith, eqb-false g 0 e)); given = tt; back = refl }
 
-accepted_next : (g k : ℕ) (b l : List ℕ) (items : List RecordItem) → Whole k b → Bytes (k ∷ (b ++ l)) → (first_wrong (group_after g k) items ≡ 0 → Accepted (group_after g k) l items)
-    → (m v : Bool) → misplaced g k ≡ m → value_wrong k (get_or b 0 0) ≡ v → cond (m || v) record_wrong (first_wrong (group_after g k) items) ≡ 0 → Accepted g (k ∷ (b ++ l)) (entry k b ∷ items)
-accepted_next g k b l items p h later true v e f w = absurd (omega arith)
-accepted_next g k b l items p h later false true e f w = absurd (omega arith)
+accepted_next : (g k : ℕ) (b l : List ℕ) (items : List RecordItem) → Whole k b → Bytes (k ∷ (b ++ l)) → (first_wrong (group_after g k) items ≡ Ok tt → Accepted (group_after g k) l items)
+    → (m v : Bool) → misplaced g k ≡ m → value_wrong k (get_or b 0 0) ≡ v → cond (m || v) (Err RecordWrong) (first_wrong (group_after g k) items) ≡ Ok tt → Accepted g (k ∷ (b ++ l)) (entry k b ∷ items)
+accepted_next g k b l items p h later true v e f w = impossible cc
+accepted_next g k b l items p h later false true e f w = impossible cc
 accepted_next g k b l items p h later false false e f w =
     let rest = later w in
     let own : Bytes b = rw (← take_at b l (length b) refl) (bytes_take (length b) (b ++ l) (bytes_tail k (b ++ l) h)) in
@@ -67,13 +70,13 @@ accepted_next g k b l items p h later false false e f w =
       back = ap (λ (x : List ℕ). k ∷ (b ++ x)) rest.back;
     }
 
-accepted : {s : List ℕ} {items : List RecordItem} → Cut s items → (g : ℕ) → Bytes s → first_wrong g items ≡ 0 → Accepted g s items
+all_accepted : {s : List ℕ} {items : List RecordItem} → Cut s items → (g : ℕ) → Bytes s → first_wrong g items ≡ Ok tt → Accepted g s items
 unfolding first_wrong
-accepted done g h w = accepted_end g (eqb g 0) refl w
-accepted (stop p) g h w = absurd (omega arith)
-accepted (next {k = k} {b = b} {l = l} {items = items} p c) g h w =
+all_accepted done g h w = accepted_end g (eqb g 0) refl w
+all_accepted stop g h w = impossible cc
+all_accepted (next {k = k} {b = b} {l = l} {items = items} p c) g h w =
     let past : Bytes l = rw (← drop_at b l (length b) refl) (bytes_drop (length b) (b ++ l) (bytes_tail k (b ++ l) h)) in
-    accepted_next g k b l items p h (λ n. accepted c (group_after g k) past n) (misplaced g k) (value_wrong k (get_or b 0 0)) refl refl w
+    accepted_next g k b l items p h (λ n. all_accepted c (group_after g k) past n) (misplaced g k) (value_wrong k (get_or b 0 0)) refl refl w
 
-pub sheet_accepted : (sheet : List ℕ) → Bytes sheet → first_wrong 0 (records sheet) ≡ 0 → Accepted 0 sheet (records sheet)
-sheet_accepted sheet = accepted (records_cut sheet) 0
+pub sheet_accepted : (sheet : List ℕ) → Bytes sheet → first_wrong 0 (records sheet) ≡ Ok tt → Accepted 0 sheet (records sheet)
+sheet_accepted sheet = all_accepted (records_cut sheet) 0

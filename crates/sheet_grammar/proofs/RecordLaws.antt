@@ -1,8 +1,8 @@
 -- Records and their bytes. A list of whole records is what its bytes are read as; and what a sheet is read as is the sheet, cut into records.
 --     records_back     of whole records
---     records_cut      of any sheet; a bad record's number is not 0
+--     records_cut      of any sheet
 -- Assumes nothing.
-use Prim.Native.Nat.{ℕ, zero, suc, ◌≤◌, ◌<◌}
+use Prim.Native.Nat.{ℕ, zero, suc, ◌≤◌}
 use mathlib.Core.Bool.{Bool, true, false, cond}
 use mathlib.Core.List.{List, [], ◌∷◌, ◌++◌}
 use mathlib.Core.Path.{◌≡◌, refl, ap, ◌∙◌, subst}
@@ -13,9 +13,10 @@ use lib.ListN.{length, take, drop, length-append, take-append-drop}
 use lib.Seq.{take_at, drop_at, length-take-le}
 use Rattle.laws.specs.Walk.{more, last, after, walk, each}
 use Rattle.laws.proofs.WalkLaws.{walk_more, walk_last}
-use Rattle.refusal.specs.Numbers.{record_cut, record_wrong}
 use Rattle.sheet.specs.Allowed.{All}
 use Rattle.sheet.specs.Record.{body_length, unknown_kind, whole, refused, record_head, RecordItem, entry, bad, first_record, records}
+use Rattle.refusal.specs.declared.Refusal.{Refusal}
+use Rattle.refusal.specs.declared.Refusal.TheVariants.{RecordCut, RecordWrong}
 
 -- a record of a known kind that has all of its body
 pub record Whole (k : ℕ) (b : List ℕ) : Type 0 where
@@ -25,12 +26,12 @@ pub record Whole (k : ℕ) (b : List ℕ) : Type 0 where
 -- of every record, where none is bad
 abbrev pub OfItem : (ℕ → List ℕ → Type 0) → RecordItem → Type 0
 OfItem P (entry k b) = P k b
-OfItem P (bad n) = ⊥
+OfItem P (bad refusal) = ⊥
 
 -- a record as it stands in the sheet
 abbrev pub bytes_of : RecordItem → List ℕ
 bytes_of (entry k b) = k ∷ b
-bytes_of (bad n) = []
+bytes_of (bad refusal) = []
 
 -- ---- records, written and read
 
@@ -59,13 +60,13 @@ records_entry k b rest w =
 pub records_back : (items : List RecordItem) → All (OfItem Whole) items → records (each bytes_of items) ≡ items
 records_back [] h = records_none
 records_back (entry k b ∷ items) h = records_entry k b (each bytes_of items) h.0 ∙ ap (λ (r : List RecordItem). entry k b ∷ r) (records_back items h.1)
-records_back (bad n ∷ items) h = absurd h.0
+records_back (bad refusal ∷ items) h = absurd h.0
 
 -- ---- a sheet, cut into records
 
 pub data Cut : List ℕ → List RecordItem → Type 0 where
   done : Cut [] []
-  stop : {l : List ℕ} {n : ℕ} → 0 < n → Cut l (bad n ∷ [])
+  stop : {l : List ℕ} {refusal : Refusal} → Cut l (bad refusal ∷ [])
   next : {k : ℕ} {b l : List ℕ} {items : List RecordItem} → Whole k b → Cut l items → Cut (k ∷ (b ++ l)) (entry k b ∷ items)
 
 -- the records of the bytes that follow the first n
@@ -77,9 +78,9 @@ unfolding record_head
 first_cut b l later = go (unknown_kind b) (ltb (length l) (body_length b)) refl refl
   where
     go : (u c : Bool) → unknown_kind b ≡ u → ltb (length l) (body_length b) ≡ c
-        → Cut (b ∷ l) (after (first_record (cond u (refused record_wrong) (cond c (refused record_cut) (whole b))) (b ∷ l)) (λ n. reading n l))
-    go true c e f = stop {n = record_wrong} (omega arith)
-    go false true e f = stop {n = record_cut} (omega arith)
+        → Cut (b ∷ l) (after (first_record (cond u (refused RecordWrong) (cond c (refused RecordCut) (whole b))) (b ∷ l)) (λ n. reading n l))
+    go true c e f = stop
+    go false true e f = stop
     go false false e f =
         let n = body_length b in
         let w : Whole b (take n l) = record { known = e; long = length-take-le n l (ltb-false (length l) n f) } in

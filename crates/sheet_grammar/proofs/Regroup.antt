@@ -113,7 +113,7 @@ regroup {g} (more {k = k} {b = b} {items = items} p o) r = regroup_next g k b it
 none_in_hand : (items : List RecordItem) → All (OfItem Correct) items → leading 0 items ≡ []
 unfolding leading
 none_in_hand [] r = refl
-none_in_hand (bad n ∷ items) r = refl
+none_in_hand (bad refusal ∷ items) r = refl
 none_in_hand (entry k b ∷ items) r = leading_other k b items 0 (neither (eqb k 0) (ltb 11 k) r.0.whole.known).0
 
 pub regroup_all : (items : List RecordItem) → Ordered 0 items → All (OfItem Correct) items → sections openers (groups_in items) ≡ items
@@ -125,7 +125,7 @@ module _ (P : ℕ → List ℕ → Type 0) where
   leading_all : (m : ℕ) (items : List RecordItem) → All (OfItem P) items → All (P m) (leading m items)
   unfolding leading
   leading_all m [] h = tt
-  leading_all m (bad n ∷ items) h = tt
+  leading_all m (bad refusal ∷ items) h = tt
   leading_all m (entry k b ∷ items) h = go (eqb k m) refl (leading_all m items h.1)
     where
       go : (t : Bool) → eqb k m ≡ t → All (P m) (leading m items) → All (P m) (cond t (b ∷ leading m items) [])
@@ -135,7 +135,7 @@ module _ (P : ℕ → List ℕ → Type 0) where
   groups_all : (j : ℕ) (items : List RecordItem) → All (OfItem P) items → All (OfGroup P j) (groups_in items j)
   unfolding groups
   groups_all j [] h = tt
-  groups_all j (bad n ∷ items) h = tt
+  groups_all j (bad refusal ∷ items) h = tt
   groups_all j (entry k b ∷ items) h = go (eqb k j) refl (groups_all j items h.1)
     where
       go : (t : Bool) → eqb k j ≡ t → All (OfGroup P j) (groups_in items j)

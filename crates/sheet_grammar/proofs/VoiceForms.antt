@@ -3,7 +3,6 @@
 use Prim.Native.Nat.{ℕ, ◌≤◌, ◌<◌}
 use mathlib.Core.Bool.{true, false}
 use mathlib.Core.List.{List, [], ◌∷◌, ◌++◌, map}
-use mathlib.Core.Option.{some}
 use mathlib.Core.Path.{◌≡◌, refl, sym, ap, ◌∙◌}
 use native.Mathlib.Omega.{arith}
 use lib.ListN.{length, get_or}
@@ -24,6 +23,7 @@ use Rattle.sheet_grammar.proofs.KindLaws.{member, latest_of}
 use Rattle.sheet_grammar.proofs.Sections.{OfGroup, Listed}
 use Rattle.sheet_grammar.proofs.FormLaws.{Form, reread, many, one_byte, alone, gathered, alone_form, gathered_form, listed, list_form, once_form}
 use Rattle.sheet_grammar.proofs.FieldForms.{header_body, pan_body, point_body, segment_body, fade_body, assignment, known_channel_lem, channel_body, KeyFits, key_body, text_byte_body}
+use Rattle.std.specs.Prelude.{Some}
 
 -- ---- what was given is correct
 
@@ -68,7 +68,7 @@ One P gs = (0 < length gs) × P gs
 pub header_form : Form Fitting (Listed Correct 1) (One (Listed Given 1)) (λ h. alone (header_bytes h) ∷ []) (λ gs. header_of (body_of (first (bodies_of gs))))
 header_form =
     let f = once_form 1 (alone_form 1 refl header_body) (omega arith) in
-    record { written = λ h p. f.written (some h) p; back = header_body.back; again = again f.again; fits = fits }
+    record { written = λ h p. f.written (Some h) p; back = header_body.back; again = again f.again; fits = fits }
   where
     again : ((gs : List Group) → Listed Given 1 gs → map (λ h. alone (header_bytes h)) (listed (map_option (λ (g : Group). header_of g.body) (first gs))) ≡ gs)
         → (gs : List Group) → One (Listed Given 1) gs → alone (header_bytes (header_of (body_of (first (bodies_of gs))))) ∷ [] ≡ gs

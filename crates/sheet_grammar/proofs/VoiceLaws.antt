@@ -6,7 +6,6 @@
 use Prim.Native.Nat.{ℕ, ◌<◌}
 use mathlib.Core.Bool.{true, and-eq-true_iff}
 use mathlib.Core.List.{List, [], ◌∷◌, ◌++◌, map, append_assoc, append-nil}
-use mathlib.Core.Option.{Option, none, some}
 use mathlib.Core.Path.{◌≡◌, refl, ap, ◌∙◌}
 use lib.ListN.{length, get_or}
 use Rattle.laws.specs.Walk.{each}
@@ -28,6 +27,7 @@ use Rattle.sheet_grammar.proofs.KindLaws.{member, openers, Parts}
 use Rattle.sheet_grammar.proofs.Sections.{sections, group_bytes, sections_bytes, Listed}
 use Rattle.sheet_grammar.proofs.FormLaws.{alone, gathered, listed}
 use Rattle.sheet_grammar.proofs.VoiceForms.{bodies_of, header_form, channel_form, pan_form, attacks_form, releases_form, sequence_form, fade_form, TextFits, text_group, text_form, texts_form}
+use Rattle.std.specs.Prelude.{None, Option, Some}
 
 -- the groups that are written for a voice, by kind
 abbrev pub groups_of : Voice → ℕ → List Group
@@ -52,8 +52,8 @@ groups_of v k =
 
 module _ {A : Type 0} where
   pub each_listed : {B : Type 0} (w : A → B) (f : B → List ℕ) (g : A → List ℕ) → ((a : A) → f (w a) ≡ g a) → (o : Option A) → each f (map w (listed o)) ≡ if_there g o
-  each_listed w f g e none = refl
-  each_listed w f g e (some a) = append-nil (f (w a)) ∙ e a
+  each_listed w f g e None = refl
+  each_listed w f g e (Some a) = append-nil (f (w a)) ∙ e a
 
   alone_bytes : (k : ℕ) (w : A → List ℕ) (a : A) → group_bytes k (alone (w a)) ≡ k ∷ w a
   alone_bytes k w a = ap (λ (l : List ℕ). k ∷ l) (append-nil (w a))
@@ -83,8 +83,8 @@ flat_bytes v =
 -- ---- what is written, and read back
 
 any_channel : {A : Type 0} (o : Option A) → IfThere (λ a. Unit {0}) o
-any_channel none = tt
-any_channel (some a) = tt
+any_channel None = tt
+any_channel (Some a) = tt
 
 text_fits : (t : Text) → TextAllowed t → TextFits t
 text_fits t a = record { key = record { from = a.key_from_lem; to = a.key_to }; bytes = a.bytes }

@@ -2,7 +2,6 @@
 -- Assumes nothing.
 use mathlib.Core.Path.{◌≡◌, refl, sym, ap, ◌∙◌}
 use mathlib.Core.List.{List, [], ◌∷◌, ◌++◌, map, append_assoc, append-nil, map-append}
-use mathlib.Core.Option.{Option, none, some}
 use Prim.Native.Nat.{ℕ}
 use native.Mathlib.Omega.{arith}
 use borrow.Author.Tests.{ne_eqb, eq-eqb}
@@ -20,6 +19,7 @@ use Rattle.sheet.specs.Allowed.{All, PointFits, SegmentFits}
 use Rattle.sheet_grammar.proofs.ListLaws.{all_append, map_back}
 use Rattle.sheet_layout.specs.Joined.{joined}
 use Rattle.sheet_layout.specs.Members.{first_member, members_in, points_in, segments_in, Whole}
+use Rattle.std.specs.Prelude.{None, Option, Some}
 
 module _ (member n : ℕ) where
   pub none_left : members_in member n [] ≡ []
@@ -88,8 +88,8 @@ sequence_members segments =
 
 -- a sequence that may be missing
 pub segments_whole : (o : Option (List SeqnSegment)) → Whole 8 8 (if_there flat_sequence o)
-segments_whole none = rw (none_left 8 8) tt
-segments_whole (some segments) = rw (sequence_members segments) (members_sized 8 8 segment_bytes segment_length_lem segments)
+segments_whole None = rw (none_left 8 8) tt
+segments_whole (Some segments) = rw (sequence_members segments) (members_sized 8 8 segment_bytes segment_length_lem segments)
 
 segment_same : (s : SeqnSegment) → SegmentFits s → segment_of (segment_bytes s) ≡ s
 segment_same s f = ap segment_of (sym (append-nil (segment_bytes s))) ∙ segment_back s [] f.start f.end

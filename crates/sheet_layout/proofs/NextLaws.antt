@@ -1,98 +1,105 @@
 -- From a place of a part on, where the next member begins: the bytes before it open groups and hold no member.
---     next_here, next_passed, next_end                      at a member, before another byte, and at the part's end
---     next_after, next_within, next_stands, next_same       where the next member lies; the members from there on are the same
---     member_here, member_long, member_whole                where a member stands: its body and the members past it
---     members_end                                           none from the part's end on
+--     no_member                                no member follows
+--     member_after, member_same, member_here   where the next member lies; the members from there on are the same; its body
+--     member_long, member_whole                it is all there, and those past it are
 -- Assumes nothing.
-use Prim.Native.Nat.{ℕ, suc, ◌+◌, ◌≤◌, ◌<◌, zero-le}
-use lib.Dec.{eqb}
-use lib.ListN.{length, get_or, take, drop, length-take, length-drop, drop_of_length-le}
-use lib.Seq.{drop-cons, drop-drop, get_or-drop}
+use Prim.Native.Nat.{ℕ, zero, suc, ◌+◌, ◌≤◌, ◌<◌}
+use lib.Dec.{eqb, ltb}
+use lib.ListN.{length, get_or, take, drop, length-take, length-drop}
+use lib.Seq.{drop-cons, drop-drop, drop-length, get_or-drop}
 use mathlib.Core.Bool.{Bool, true, false, cond}
 use mathlib.Core.List.{List, [], ◌∷◌}
 use mathlib.Core.Path.{◌≡◌, refl, sym, ap, subst, ◌∙◌}
 use native.Mathlib.Numerals.{add-one}
 use native.Mathlib.Omega.{arith}
-use borrow.Author.Tests.{eq-eqb, ne_eqb, eqb-true, eqb-false}
+use borrow.Author.Tests.{eqb-true, eqb-false, ltb-false}
+use Rattle.laws.proofs.Cases.{impossible}
 use Rattle.sheet.specs.Allowed.{All}
-use Rattle.sheet_layout.specs.Members.{members_in, Whole, openers, next_member}
+use Rattle.sheet_layout.specs.Members.{members_in, Whole, next_member}
 use Rattle.sheet_layout.proofs.MemberLaws.{none_left, opener_passed, member_first}
+use Rattle.std.proofs.lemmas.List.Quantifiers.{position-Some}
+use Rattle.std.proofs.lemmas.List.Sums.{fails_before_first}
+use Rattle.std.specs.List.{position, position_or_len}
+use Rattle.std.specs.Prelude.{None, Option, Some, option_map}
 
 -- ---- the bytes before the first member
 
--- k bytes of l may be passed over: a member follows them, or the end, and they hold none
-record Stop (member : ℕ) (l : List ℕ) (k : ℕ) : Type 0 where
-  within : k ≤ length l
-  stands : k < length l → get_or l k 0 ≡ member
-  same : (n : ℕ) → members_in member n (drop k l) ≡ members_in member n l
-
 module _ (member : ℕ) where
-  openers_here : (kind : ℕ) (l : List ℕ) → kind ≡ member → openers member (kind ∷ l) ≡ 0
-  unfolding openers
-  openers_here kind l e = rw (eq-eqb kind member e)
+  abbrev is_member : ℕ → Bool
+  is_member kind = eqb kind member
 
-  openers_passed : (kind : ℕ) (l : List ℕ) → (kind ≡ member → ⊥) → openers member (kind ∷ l) ≡ suc (openers member l)
-  unfolding openers
-  openers_passed kind l other = rw (ne_eqb kind member other)
+  -- bytes of other kinds hold no member
+  others_passed : (l : List ℕ) (k : ℕ) → k ≤ length l → ((i : ℕ) → i < k → is_member (get_or l i 0) ≡ false) → (n : ℕ) → members_in member n (drop k l) ≡ members_in member n l
+  others_passed l zero h others n = refl
+  others_passed [] (suc k) h others n = absurd (omega arith)
+  others_passed (kind ∷ l) (suc k) h others n =
+      others_passed l k (omega arith) (λ i g. others (suc i) (omega arith)) n
+      ∙ sym (opener_passed member n kind l (eqb-false kind member (others 0 (omega arith))))
 
-  openers_stop : (l : List ℕ) → Stop member l (openers member l)
-  unfolding openers
-  openers_stop [] = record { within = zero-le; stands = λ h. absurd (omega arith); same = λ n. refl }
-  openers_stop (kind ∷ l) = go (openers_stop l) (eqb kind member) refl
+  none_found : (l : List ℕ) → position is_member l ≡ None → (n : ℕ) → members_in member n l ≡ []
+  none_found l e n = go (ltb (position_or_len is_member l) (length l)) refl e
     where
-      go : Stop member l (openers member l) → (t : Bool) → eqb kind member ≡ t → Stop member (kind ∷ l) (cond t 0 (suc (openers member l)))
-      go later true e = record { within = zero-le; stands = λ h. eqb-true kind member e; same = λ n. refl }
-      go later false e = record {
-        within = omega (arith, later.within);
-        stands = λ h. later.stands (omega arith);
-        same = λ n. later.same n ∙ sym (opener_passed member n kind l (eqb-false kind member e));
-      }
+      go : (t : Bool) → ltb (position_or_len is_member l) (length l) ≡ t → cond t (Some (position_or_len is_member l)) None ≡ None → members_in member n l ≡ []
+      go true t e = impossible cc
+      go false t e =
+          let past = ltb-false (position_or_len is_member l) (length l) t in
+          sym (others_passed l (length l) (omega arith) (λ i h. fails_before_first is_member l i 0 (omega arith)) n)
+          ∙ rw drop-length (none_left member n)
 
 -- ---- the next member from a place on
 
 module _ (member : ℕ) (part : List ℕ) (at : ℕ) where
-  pub next_here : at < length part → get_or part at 0 ≡ member → next_member member at part ≡ at
-  next_here here is = rw (drop-cons part at 0 here, openers_here member (get_or part at 0) (drop (suc at) part) is) (omega arith)
+  -- a member begins at k, and none before it
+  record Next (k : ℕ) : Type 0 where
+    after : at ≤ k
+    here : k < length part
+    is : get_or part k 0 ≡ member
+    same : (n : ℕ) → members_in member n (drop k part) ≡ members_in member n (drop at part)
 
-  pub next_passed : at < length part → (get_or part at 0 ≡ member → ⊥) → next_member member (at + 1) part ≡ next_member member at part
-  next_passed here other = rw (drop-cons part at 0 here, openers_passed member (get_or part at 0) (drop (suc at) part) other, add-one) (omega arith)
+  next_found : {k : ℕ} → next_member member at part ≡ Some k → Next k
+  next_found {k} e = go (position (is_member member) (drop at part)) refl e
+    where
+      go : (o : Option ℕ) → position (is_member member) (drop at part) ≡ o → option_map (λ i. at + i) o ≡ Some k → Next k
+      go None p e = impossible cc
+      go (Some i) p e =
+          let first = position-Some (is_member member) (drop at part) i 0 p in
+          let place : at + i ≡ k = cc in
+          subst Next place
+          (record {
+            after = omega arith;
+            here = omega (arith, first.0, length-drop at part);
+            is = sym (get_or-drop at part i 0) ∙ eqb-true _ member first.1;
+            same = λ n. ap (members_in member n) (sym (drop-drop i at part)) ∙ others_passed member (drop at part) i (omega (arith, first.0)) first.2 n;
+          })
 
-  pub next_end : length part ≤ at → next_member member at part ≡ at
-  unfolding openers
-  next_end past = rw (drop_of_length-le part past) (omega arith)
+  pub no_member : next_member member at part ≡ None → (n : ℕ) → members_in member n (drop at part) ≡ []
+  no_member e = go (position (is_member member) (drop at part)) refl e
+    where
+      go : (o : Option ℕ) → position (is_member member) (drop at part) ≡ o → option_map (λ i. at + i) o ≡ None → (n : ℕ) → members_in member n (drop at part) ≡ []
+      go None p e = none_found member (drop at part) p
+      go (Some i) p e = impossible cc
 
-  pub next_after : at ≤ next_member member at part
-  next_after = omega arith
+-- ---- where the next member stands
 
-  pub next_within : at ≤ length part → next_member member at part ≤ length part
-  next_within h = omega (arith, (openers_stop member (drop at part)).within, length-drop at part)
+module _ (member n : ℕ) (part : List ℕ) (at : ℕ) {k : ℕ} (e : next_member member at part ≡ Some k) where
+  pub member_after : at ≤ k
+  member_after = (next_found member part at e).after
 
-  pub next_stands : next_member member at part < length part → get_or part (next_member member at part) 0 ≡ member
-  next_stands h =
-      sym (get_or-drop at part (openers member (drop at part)) 0)
-      ∙ (openers_stop member (drop at part)).stands (rw length-drop (omega arith))
+  pub member_same : members_in member n (drop k part) ≡ members_in member n (drop at part)
+  member_same = (next_found member part at e).same n
 
-  pub next_same : (n : ℕ) → members_in member n (drop (next_member member at part) part) ≡ members_in member n (drop at part)
-  next_same n = ap (members_in member n) (sym (drop-drop (openers member (drop at part)) at part)) ∙ (openers_stop member (drop at part)).same n
+  pub member_here : members_in member n (drop at part) ≡ take n (drop (k + 1) part) ∷ members_in member n (drop (k + suc n) part)
+  member_here =
+      let next = next_found member part at e in
+      let first : drop k part ≡ member ∷ drop (k + 1) part = rw (add-one k) (drop-cons part k 0 next.here ∙ rw next.is) in
+      let past : k + 1 + n ≡ k + suc n = omega arith in
+      sym member_same ∙ ap (members_in member n) first ∙ member_first member n (drop (k + 1) part) ∙ rw (drop-drop n (k + 1) part, past)
 
--- ---- where a member stands
+  both : Whole member n (drop at part) → (length (take n (drop (k + 1) part)) ≡ n) × Whole member n (drop (k + suc n) part)
+  both h = subst (All (λ body. length body ≡ n)) member_here h
 
-module _ (member n : ℕ) (part : List ℕ) (at : ℕ) where
-  module _ (here : at < length part) (is : get_or part at 0 ≡ member) where
-    pub member_here : members_in member n (drop at part) ≡ take n (drop (at + 1) part) ∷ members_in member n (drop (at + suc n) part)
-    member_here =
-        let first : drop at part ≡ member ∷ drop (at + 1) part = rw (add-one at) (drop-cons part at 0 here ∙ rw is) in
-        let past : at + 1 + n ≡ at + suc n = omega arith in
-        ap (members_in member n) first ∙ member_first member n (drop (at + 1) part) ∙ rw (drop-drop n (at + 1) part, past)
+  pub member_long : Whole member n (drop at part) → k + suc n ≤ length part
+  member_long h = omega (arith, (next_found member part at e).here, (both h).0, length-take n (drop (k + 1) part), length-drop (k + 1) part)
 
-    both : Whole member n (drop at part) → (length (take n (drop (at + 1) part)) ≡ n) × Whole member n (drop (at + suc n) part)
-    both h = subst (All (λ body. length body ≡ n)) member_here h
-
-    pub member_long : Whole member n (drop at part) → at + suc n ≤ length part
-    member_long h = omega (arith, (both h).0, length-take n (drop (at + 1) part), length-drop (at + 1) part)
-
-    pub member_whole : Whole member n (drop at part) → Whole member n (drop (at + suc n) part)
-    member_whole h = (both h).1
-
-  pub members_end : length part ≤ at → members_in member n (drop at part) ≡ []
-  members_end past = rw (drop_of_length-le part past) (none_left member n)
+  pub member_whole : Whole member n (drop at part) → Whole member n (drop (k + suc n) part)
+  member_whole h = (both h).1

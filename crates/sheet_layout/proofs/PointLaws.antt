@@ -6,7 +6,6 @@
 -- Assumes nothing.
 use Prim.Native.Nat.{ℕ, ◌+◌, ◌-◌, ◌≤◌}
 use mathlib.Core.List.{List, [], ◌++◌, map}
-use mathlib.Core.Option.{none, some}
 use mathlib.Core.Path.{◌≡◌, ap, ◌∙◌, subst}
 use native.Mathlib.Omega.{arith}
 use lib.ListN.{length, take, drop, get_or}
@@ -19,7 +18,6 @@ use Rattle.sheet.specs.Allowed.{All, SegmentFits, IfThere}
 use Rattle.sheet.specs.Flat.{if_there, flat_sequence}
 use Rattle.sheet.specs.Judge.{judged}
 use Rattle.sheet.specs.Read.{read_sheet}
-use Rattle.sheet.specs.declared.judge.Judged.TheVariants.{Sound}
 use Rattle.sheet_layout.specs.Layout.{attacks_at, releases_at, sequence_at, fade_at}
 use Rattle.sheet_layout.specs.Joined.{joined}
 use Rattle.sheet_layout.specs.Members.{between, points_in, segments_in, Whole}
@@ -27,6 +25,7 @@ use Rattle.sheet_layout.proofs.MemberLaws.{none_left, envelope_points_lem, envel
 use Rattle.sheet_layout.proofs.PartLaws.{attacks_part, from_releases, releases_part, from_sequence, sequence_part, from_fade, at_attacks, at_releases, at_sequence}
 use Rattle.sheet_layout.proofs.PlaceLaws.{places_within}
 use Rattle.sheet_layout.proofs.SoundLaws.{sound_flat, sound_allowed}
+use Rattle.std.specs.Prelude.{None, Ok, Some}
 
 -- a part that stands at a place, cut out by the place past it
 cut_out : (s p r : List ℕ) (at next : ℕ) → drop at s ≡ p ++ r → next ≡ at + length p → between at next s ≡ p
@@ -34,7 +33,7 @@ cut_out s p r at next e h =
     let long : length p ≡ next - at = omega arith in
     ap (take (next - at)) e ∙ take_at p r (next - at) long
 
-module _ (s : List ℕ) (bytes : (i : ℕ) → Fits w8 (get_or s i 0)) (sound : judged s ≡ Sound) where
+module _ (s : List ℕ) (bytes : (i : ℕ) → Fits w8 (get_or s i 0)) (sound : judged s ≡ Ok tt) where
   pub places : let v = read_sheet s in (attacks_at v ≤ releases_at v) × (releases_at v ≤ sequence_at v) × (sequence_at v ≤ fade_at v) × (fade_at v ≤ length s)
   places = places_within (read_sheet s) s (sound_flat s bytes sound)
 
@@ -74,13 +73,13 @@ module _ (s : List ℕ) (bytes : (i : ℕ) → Fits w8 (get_or s i 0)) (sound : 
 
   -- ---- the segments
 
-  pub sequence_there : (segments : List SeqnSegment) → (read_sheet s).sequence ≡ some segments → segments_in (between (sequence_at (read_sheet s)) (fade_at (read_sheet s)) s) ≡ segments
+  pub sequence_there : (segments : List SeqnSegment) → (read_sheet s).sequence ≡ Some segments → segments_in (between (sequence_at (read_sheet s)) (fade_at (read_sheet s)) s) ≡ segments
   sequence_there segments e =
       ap segments_in sequence_cut
       ∙ ap (λ o. segments_in (if_there flat_sequence o)) e
       ∙ sequence_segments_lem segments (subst (IfThere (All SegmentFits)) e (sound_allowed s bytes sound).sequence)
 
-  pub no_sequence : (read_sheet s).sequence ≡ none → segments_in (between (sequence_at (read_sheet s)) (fade_at (read_sheet s)) s) ≡ []
+  pub no_sequence : (read_sheet s).sequence ≡ None → segments_in (between (sequence_at (read_sheet s)) (fade_at (read_sheet s)) s) ≡ []
   no_sequence e = ap segments_in sequence_cut ∙ ap (λ o. segments_in (if_there flat_sequence o)) e ∙ ap (map segment_of) (none_left 8 8)
 
   pub sequence_whole : Whole 8 8 (between (sequence_at (read_sheet s)) (fade_at (read_sheet s)) s)

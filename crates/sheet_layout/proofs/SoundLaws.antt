@@ -10,10 +10,10 @@ use Rattle.sheet.specs.Allowed.{Allowed}
 use Rattle.sheet.specs.Flat.{flat}
 use Rattle.sheet.specs.Judge.{judged}
 use Rattle.sheet.specs.Read.{read_sheet}
-use Rattle.sheet.specs.declared.judge.Judged.TheVariants.{Sound}
 use Rattle.sheet_grammar.proofs.Theorem.{flat_read, allowed_read}
+use Rattle.std.specs.Prelude.{Ok}
 
-module _ (s : List ℕ) (bytes : (i : ℕ) → Fits w8 (get_or s i 0)) (sound : judged s ≡ Sound) where
+module _ (s : List ℕ) (bytes : (i : ℕ) → Fits w8 (get_or s i 0)) (sound : judged s ≡ Ok tt) where
   pub sound_flat : flat (read_sheet s) ≡ s
   sound_flat = flat_read s (λ i. (bytes i).fits) sound
 

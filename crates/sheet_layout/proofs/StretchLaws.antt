@@ -7,22 +7,22 @@
 --     groups_passed, group_passed                 groups are passed exactly
 -- Assumes nothing.
 use Prim.Native.Nat.{ℕ, suc, ◌+◌, ◌-◌, ◌≤◌, ◌<◌}
-use lib.Dec.{eqb}
+use lib.Dec.{eqb, ltb}
 use lib.ListN.{length, get_or, drop, length-append, drop_of_length-le}
 use lib.Seq.{drop-cons, drop_at, drop-drop}
 use mathlib.Core.Bool.{true, false}
 use mathlib.Core.List.{List, [], ◌∷◌, ◌++◌, append_assoc}
-use mathlib.Core.Option.{Option, none, some}
 use mathlib.Core.Path.{◌≡◌, refl, sym, ap, ◌∙◌}
 use native.Mathlib.Omega.{arith}
-use borrow.Author.Tests.{eq-eqb, ne_eqb}
+use borrow.Author.Tests.{eq-eqb, ne_eqb, ltb-true}
 use Rattle.laws.specs.Walk.{more, last, each}
 use Rattle.laws.proofs.WalkLaws.{walk_more, walk_last}
 use Rattle.sheet.specs.Flat.{if_there}
 use Rattle.sheet_layout.specs.Stretch.{starts_with, one_length, group_front, sum, stretch}
+use Rattle.std.specs.Prelude.{None, Option, Some}
 
-starts_at : (k i : ℕ) (s : List ℕ) → i < length s → starts_with k (drop i s) ≡ eqb (get_or s i 0) k
-starts_at k i s h = rw (drop-cons s i 0 h)
+starts_at : (k i d : ℕ) (s : List ℕ) → i < length s → starts_with k (drop i s) ≡ eqb (get_or s i d) k
+starts_at k i d s h = rw (drop-cons s i d h)
 
 -- ---- a run, record by record
 
@@ -63,12 +63,16 @@ module _ (s : List ℕ) (i : ℕ) where
     pub run_end : starts_with o (drop i s) ≡ false → starts_with m (drop i s) ≡ false → i ≡ i + stretch o m n (drop i s)
     run_end e k = omega (arith, stretch_end o m n (drop i s) e k)
 
-  module _ (h : i < length s) (k : ℕ) where
-    pub starts_own : get_or s i 0 ≡ k → starts_with k (drop i s) ≡ true
-    starts_own e = starts_at k i s h ∙ eq-eqb (get_or s i 0) k e
+  -- the byte that is read there
+  module _ {b : ℕ} (within : true ≡ ltb i (length s)) (read : b ≡ get_or s i b) (k : ℕ) where
+    starts_read : starts_with k (drop i s) ≡ eqb b k
+    starts_read = starts_at k i b s (ltb-true i (length s) (sym within)) ∙ ap (λ (x : ℕ). eqb x k) (sym read)
 
-    pub starts_other : (get_or s i 0 ≡ k → ⊥) → starts_with k (drop i s) ≡ false
-    starts_other e = starts_at k i s h ∙ ne_eqb (get_or s i 0) k e
+    pub starts_own : b ≡ k → starts_with k (drop i s) ≡ true
+    starts_own e = starts_read ∙ eq-eqb b k e
+
+    pub starts_other : (b ≡ k → ⊥) → starts_with k (drop i s) ≡ false
+    starts_other e = starts_read ∙ ne_eqb b k e
 
 -- ---- parts that begin with another kind, or are empty
 
@@ -78,15 +82,15 @@ module _ {A : Type 0} (k : ℕ) (g : A → List ℕ) (other : (a : A) (r : List 
   starts_each (a ∷ as') = rw (append_assoc (g a) (each g as') r) (other a (each g as' ++ r))
 
   pub starts_there : (o : Option A) → starts_with k (if_there g o ++ r) ≡ false
-  starts_there none = h
-  starts_there (some a) = other a r
+  starts_there None = h
+  starts_there (Some a) = other a r
 
 -- ---- a record that may be missing
 
 pub one_there : {A : Type 0} (k n : ℕ) (f : A → List ℕ) → ((a : A) → suc (length (f a)) ≡ n)
     → (o : Option A) (r : List ℕ) → starts_with k r ≡ false → one_length k n (if_there (λ a. k ∷ f a) o ++ r) ≡ length (if_there (λ a. k ∷ f a) o)
-one_there k n f size none r h = rw h
-one_there k n f size (some a) r h = rw (eq-eqb k k refl) (sym (size a))
+one_there k n f size None r h = rw h
+one_there k n f size (Some a) r h = rw (eq-eqb k k refl) (sym (size a))
 
 -- ---- groups
 
@@ -122,5 +126,5 @@ module _ (o m n : ℕ) where
       -- one group, which may be missing
       pub group_passed : (g : Option (List A)) → stretch o m n (if_there (λ as'. o ∷ each (λ a. m ∷ f a) as') g ++ r) ≡ length (if_there (λ as'. o ∷ each (λ a. m ∷ f a) as') g)
       unfolding Passed
-      group_passed none = stretch_end o m n r other no_member
-      group_passed (some as') = passed_group as' r ∙ rw (stretch_end o m n r other no_member) (omega arith)
+      group_passed None = stretch_end o m n r other no_member
+      group_passed (Some as') = passed_group as' r ∙ rw (stretch_end o m n r other no_member) (omega arith)

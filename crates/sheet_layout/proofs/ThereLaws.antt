@@ -11,7 +11,6 @@ use lib.Dec.{lit<}
 use lib.ListN.{length, get_or, drop, length-append, length-drop}
 use lib.Seq.{get_or-drop, drop-drop}
 use mathlib.Core.List.{List, [], ◌∷◌, ◌++◌}
-use mathlib.Core.Option.{Option, none, some}
 use mathlib.Core.Path.{◌≡◌, refl, sym, ap, subst, ◌∙◌}
 use native.Mathlib.Nat.{add-zero, mul-div_cancel}
 use native.Mathlib.Omega.{arith}
@@ -25,29 +24,28 @@ use Rattle.small_chunks.proofs.FieldLaws.{segment_length_lem}
 use Rattle.sheet.specs.Allowed.{IfThere}
 use Rattle.sheet.specs.Flat.{if_there, flat_segment, flat_sequence, flat}
 use Rattle.sheet.specs.Voice.{Voice}
-use Rattle.sheet_layout.specs.Answers.{sequence_answer}
 use Rattle.sheet_layout.specs.Layout.{channel_at, pan_at, attacks_at, sequence_at, fade_at, texts_at, layout_of}
 use Rattle.sheet_layout.specs.declared.Layout.{Layout}
-use Rattle.sheet_layout.specs.declared.MaybeSequence.TheVariants.{Segments}
 use Rattle.sheet_layout.proofs.PartLaws.{from_pan, from_attacks, from_texts, at_channel, at_pan, at_fade}
+use Rattle.std.specs.Prelude.{None, Option, Some, option_map}
 
 -- ---- any part
 
 -- it is there: its value, and its bytes past the byte at `at`
 pub record Present {A : Type 0} (f : A → List ℕ) (o : Option A) (at : ℕ) (s rest : List ℕ) : Type 0 where
   pub value : A
-  pub is : o ≡ some value
+  pub is : o ≡ Some value
   pub body : drop (at + 1) s ≡ f value ++ rest
   pub room : at + 1 + length (f value) ≤ length s
 
 module _ {A : Type 0} (k : ℕ) (f : A → List ℕ) where
-  missing : (at : ℕ) (o : Option A) → at ≡ at + length (if_there (λ a. k ∷ f a) o) → o ≡ none
-  missing at none e = refl
-  missing at (some a) e = absurd (omega arith)
+  missing : (at : ℕ) (o : Option A) → at ≡ at + length (if_there (λ a. k ∷ f a) o) → o ≡ None
+  missing at None e = refl
+  missing at (Some a) e = absurd (omega arith)
 
   present : (at : ℕ) (s rest : List ℕ) (o : Option A) → drop at s ≡ if_there (λ a. k ∷ f a) o ++ rest → (at ≡ at + length (if_there (λ a. k ∷ f a) o) → ⊥) → Present f o at s rest
-  present at s rest none e h = absurd (h (omega arith))
-  present at s rest (some a) e h = record {
+  present at s rest None e h = absurd (h (omega arith))
+  present at s rest (Some a) e h = record {
     value = a;
     is = refl;
     body = sym (drop-drop 1 at s) ∙ ap (drop 1) e;
@@ -56,9 +54,9 @@ module _ {A : Type 0} (k : ℕ) (f : A → List ℕ) where
 
 -- where what is written reads back
 pub present_read : {A : Type 0} {f : A → List ℕ} {o : Option A} {at : ℕ} {s rest : List ℕ} (of : List ℕ → A) (P : A → Type 0)
-    → ((a : A) (r : List ℕ) → P a → of (f a ++ r) ≡ a) → Present f o at s rest → IfThere P o → o ≡ some (of (drop (at + 1) s))
+    → ((a : A) (r : List ℕ) → P a → of (f a ++ r) ≡ a) → Present f o at s rest → IfThere P o → o ≡ Some (of (drop (at + 1) s))
 present_read {rest = rest} of P back p h =
-    p.is ∙ ap some (sym (ap of p.body ∙ back p.value rest (subst (λ x. IfThere P x) p.is h)))
+    p.is ∙ ap Some (sym (ap of p.body ∙ back p.value rest (subst (λ x. IfThere P x) p.is h)))
 
 -- a channel's byte is its value
 pub channel_byte : {o : Option ChannelAssignment} {at : ℕ} {s rest : List ℕ} (p : Present (λ c. channel_value_of c ∷ []) o at s rest) → get_or s (at + 1) 0 ≡ channel_value_of p.value
@@ -68,19 +66,19 @@ channel_byte {at = at} {s = s} p =
 -- ---- the parts of a voice
 
 module _ (v : Voice) (l : Layout) (q : l ≡ layout_of v) where
-  pub channel_missing : l.channel ≡ l.pan → v.channel ≡ none
+  pub channel_missing : l.channel ≡ l.pan → v.channel ≡ None
   unfolding pan_at
   channel_missing h = missing 2 (λ c. channel_value_of c ∷ []) (channel_at v) v.channel (rw q at h)
 
-  pub pan_missing : l.pan ≡ l.attacks → v.pan ≡ none
+  pub pan_missing : l.pan ≡ l.attacks → v.pan ≡ None
   unfolding attacks_at
   pan_missing h = missing 3 pan_bytes (pan_at v) v.pan (rw q at h)
 
-  pub fade_missing : l.fade ≡ l.texts → v.fade ≡ none
+  pub fade_missing : l.fade ≡ l.texts → v.fade ≡ None
   unfolding texts_at
   fade_missing h = missing 9 fade_bytes (fade_at v) v.fade (rw q at h)
 
-  pub sequence_missing : l.sequence ≡ l.fade → v.sequence ≡ none
+  pub sequence_missing : l.sequence ≡ l.fade → v.sequence ≡ None
   unfolding fade_at
   sequence_missing h = missing 7 (each flat_segment) (sequence_at v) v.sequence (rw q at h)
 
@@ -107,12 +105,12 @@ each_length : {A : Type 0} (n : ℕ) (g : A → List ℕ) → ((a : A) → lengt
 each_length n g size [] = omega arith
 each_length n g size (a ∷ as') = rw (length-append, size a, each_length n g size as') (omega arith)
 
-counted : (at : ℕ) (o : Option (List SeqnSegment)) → (at ≡ at + length (if_there flat_sequence o) → ⊥) → Segments ((at + length (if_there flat_sequence o) - at - 1) / 9) ≡ sequence_answer o
-counted at none h = absurd (h (omega arith))
-counted at (some segments) h =
+counted : (at : ℕ) (o : Option (List SeqnSegment)) → (at ≡ at + length (if_there flat_sequence o) → ⊥) → Some ((at + length (if_there flat_sequence o) - at - 1) / 9) ≡ option_map length o
+counted at None h = absurd (h (omega arith))
+counted at (Some segments) h =
     let bytes : at + suc (length (each flat_segment segments)) - at - 1 ≡ length segments * 9 = omega (arith, each_length 9 flat_segment (λ g. ap suc (segment_length_lem g)) segments) in
-    ap (λ (n : ℕ). Segments (n / 9)) bytes ∙ ap Segments (mul-div_cancel (length segments) (lit< tt))
+    ap (λ (n : ℕ). Some (n / 9)) bytes ∙ ap Some (mul-div_cancel (length segments) (lit< tt))
 
-pub sequence_counted : (v : Voice) (l : Layout) → l ≡ layout_of v → (l.sequence ≡ l.fade → ⊥) → Segments ((l.fade - l.sequence - 1) / 9) ≡ sequence_answer v.sequence
+pub sequence_counted : (v : Voice) (l : Layout) → l ≡ layout_of v → (l.sequence ≡ l.fade → ⊥) → Some ((l.fade - l.sequence - 1) / 9) ≡ option_map length v.sequence
 unfolding fade_at
 sequence_counted v l q h = rw q (counted (sequence_at v) v.sequence (rw q at h))

@@ -1,6 +1,7 @@
 -- What the code's helpers ask and give; no reader of the meanings needs it.
 -- The members of a part of the sheet, read off its bytes: the points of its envelopes, or the segments of its sequence.
-use Rattle.std.specs.Prelude.{ℕ, suc, ◌+◌, ◌-◌, cond, ◌≡◌, List, [], ◌∷◌, map, eqb, length, take, drop}
+use Rattle.std.specs.Prelude.{ℕ, ◌+◌, ◌-◌, cond, ◌≡◌, List, [], ◌∷◌, map, eqb, length, take, drop, Option, option_map}
+use Rattle.std.specs.List.{position}
 use Rattle.laws.specs.Walk.{Front, more, last, walk}
 use Rattle.sheet.specs.Allowed.{All}
 use Rattle.small_chunks.specs.Envelope.{point_of}
@@ -34,11 +35,6 @@ segments_in part = map segment_of (members_in 8 8 part)
 abbrev pub Whole : ℕ → ℕ → List ℕ → Type 0
 Whole member n part = All (λ body. length body ≡ n) (members_in member n part)
 
--- the bytes before the first member
-unfoldable pub openers : ℕ → List ℕ → ℕ
-openers member [] = 0
-openers member (kind ∷ l) = cond (eqb kind member) 0 (suc (openers member l))
-
--- from a place on, where the next member begins, or the part's end
-abbrev pub next_member : ℕ → ℕ → List ℕ → ℕ
-next_member member at part = at + openers member (drop at part)
+-- from a place on, where the next member begins, if one follows
+abbrev pub next_member : ℕ → ℕ → List ℕ → Option ℕ
+next_member member at part = option_map (λ k. at + k) (position (λ kind. eqb kind member) (drop at part))

@@ -4,18 +4,16 @@
 
 mod members;
 
-ghost use Rattle.std.specs.Prelude.{◌≡◌, ◌+◌, ◌≤◌, drop};
+ghost use Rattle.std.specs.Prelude.{◌≡◌, ◌+◌, ◌≤◌, drop, length, Ok, option_map};
 ghost use Rattle.sheet.specs.Judge.{judged};
 ghost use Rattle.sheet.specs.Read.{read_sheet};
 ghost use Rattle.sheet.specs.Voice.{is_stereo};
-ghost use Rattle.sheet.specs.declared.judge.Judged.TheVariants.{Sound};
 ghost use Rattle.sheet_layout.specs.Layout.{layout_of};
 ghost use Rattle.sheet_layout.specs.Stretch.{one_length, stretch};
-ghost use Rattle.sheet_layout.specs.Answers.{channel_answer, pan_answer, fade_answer, sequence_answer};
 
 use header::{VoiceHeader, read_header};
 pub use members::next_member;
-use small_chunks::{ChannelAssignment, Fade, Pan, ParsedChannel, read_fade, read_pan};
+use small_chunks::{ChannelAssignment, Fade, Pan, read_fade, read_pan};
 
 // The place where each part begins: what may be missing then ends where it begins.
 #[derive(Clone, Copy)]
@@ -29,44 +27,16 @@ pub struct Layout {
     pub texts: usize,
 }
 
-#[derive(Clone, Copy)]
-pub enum MaybeChannel {
-    Channel(ChannelAssignment),
-    NoChannel,
-}
-
-#[derive(Clone, Copy)]
-pub enum MaybePan {
-    Panned(Pan),
-    NoPan,
-}
-
-#[derive(Clone, Copy)]
-pub enum MaybeFade {
-    Fades(Fade),
-    NoFade,
-}
-
-#[derive(Clone, Copy)]
-pub enum MaybeSequence {
-    // The number of its segments.
-    Segments(usize),
-    NoSequence,
-}
-
 // Past a record of a kind, n bytes long with its kind, where one stands at a place.
 fn past_one(sheet: &[u8], at: usize, kind: u8, n: usize) -> usize
     requires { n ≤ 16 }
     ensures { result ≡ at + one_length kind n (drop at sheet.now) }
 {
-    if sheet.len() <= at {
-        return at;
+    if sheet.get(at) == Some(&kind) {
+        at + n
+    } else {
+        at
     }
-    if sheet[at] != kind {
-        return at;
-    }
-    let next = at + n;
-    next
 }
 
 // Past the records that open groups of a kind and their members, which are n bytes long with their kind.
@@ -75,14 +45,13 @@ fn past_groups(sheet: &[u8], at: usize, opens: u8, member: u8, n: usize) -> usiz
     ensures { result ≡ at + stretch opens member n (drop at sheet.now) }
 {
     let mut i = at;
-    while i < sheet.len() {
-        let kind = sheet[i];
-        if kind == opens {
+    while let Some(kind) = sheet.get(i) {
+        if *kind == opens {
             i += 1;
-        } else if kind == member {
+        } else if *kind == member {
             i += n;
         } else {
-            return i;
+            break;
         }
     }
     i
@@ -90,7 +59,7 @@ fn past_groups(sheet: &[u8], at: usize, opens: u8, member: u8, n: usize) -> usiz
 
 // The places of a sound sheet.
 pub fn layout_of(sheet: &[u8]) -> Layout
-    requires { judged sheet.now ≡ Sound }
+    requires { judged sheet.now ≡ Ok tt }
     ensures { result ≡ layout_of (read_sheet sheet.now) }
 {
     let channel = 21;
@@ -113,7 +82,7 @@ pub fn layout_of(sheet: &[u8]) -> Layout
 
 // The header of a sound sheet.
 pub fn sheet_header(sheet: &[u8]) -> VoiceHeader
-    requires { judged sheet.now ≡ Sound }
+    requires { judged sheet.now ≡ Ok tt }
     ensures { result ≡ (read_sheet sheet.now).header }
 {
     read_header(sheet, 1)
@@ -121,7 +90,7 @@ pub fn sheet_header(sheet: &[u8]) -> VoiceHeader
 
 // That it has two channels. A channel's record, where there is one, follows the header's.
 pub fn sheet_stereo(sheet: &[u8]) -> bool
-    requires { judged sheet.now ≡ Sound }
+    requires { judged sheet.now ≡ Ok tt }
     ensures { result ≡ is_stereo (read_sheet sheet.now).channel }
 {
     let pan = past_one(sheet, 21, 2, 2);
@@ -132,57 +101,53 @@ pub fn sheet_stereo(sheet: &[u8]) -> bool
 }
 
 // Its channel, where it has one.
-pub fn sheet_channel(sheet: &[u8], l: Layout) -> MaybeChannel
-    requires { (judged sheet.now ≡ Sound) × (l ≡ layout_of (read_sheet sheet.now)) }
-    ensures { result ≡ channel_answer (read_sheet sheet.now).channel }
+pub fn sheet_channel(sheet: &[u8], l: Layout) -> Option<ChannelAssignment>
+    requires { (judged sheet.now ≡ Ok tt) × (l ≡ layout_of (read_sheet sheet.now)) }
+    ensures { result ≡ (read_sheet sheet.now).channel }
 {
     let at = l.channel;
     if at == l.pan {
-        return MaybeChannel::NoChannel;
+        return None;
     }
     let body = at + 1;
-    let parsed = ChannelAssignment::from_raw(sheet[body] as u32);
-    match parsed {
-        ParsedChannel::Parsed(c) => MaybeChannel::Channel(c),
-        ParsedChannel::Refused(_) => MaybeChannel::NoChannel,
-    }
+    ChannelAssignment::from_raw(sheet[body] as u32).ok()
 }
 
 // Its pan, where it has one.
-pub fn sheet_pan(sheet: &[u8], l: Layout) -> MaybePan
-    requires { (judged sheet.now ≡ Sound) × (l ≡ layout_of (read_sheet sheet.now)) }
-    ensures { result ≡ pan_answer (read_sheet sheet.now).pan }
+pub fn sheet_pan(sheet: &[u8], l: Layout) -> Option<Pan>
+    requires { (judged sheet.now ≡ Ok tt) × (l ≡ layout_of (read_sheet sheet.now)) }
+    ensures { result ≡ (read_sheet sheet.now).pan }
 {
     let at = l.pan;
     if at == l.attacks {
-        return MaybePan::NoPan;
+        return None;
     }
     let body = at + 1;
-    MaybePan::Panned(read_pan(sheet, body))
+    Some(read_pan(sheet, body))
 }
 
 // Its fade, where it has one.
-pub fn sheet_fade(sheet: &[u8], l: Layout) -> MaybeFade
-    requires { (judged sheet.now ≡ Sound) × (l ≡ layout_of (read_sheet sheet.now)) }
-    ensures { result ≡ fade_answer (read_sheet sheet.now).fade }
+pub fn sheet_fade(sheet: &[u8], l: Layout) -> Option<Fade>
+    requires { (judged sheet.now ≡ Ok tt) × (l ≡ layout_of (read_sheet sheet.now)) }
+    ensures { result ≡ (read_sheet sheet.now).fade }
 {
     let at = l.fade;
     if at == l.texts {
-        return MaybeFade::NoFade;
+        return None;
     }
     let body = at + 1;
-    MaybeFade::Fades(read_fade(sheet, body))
+    Some(read_fade(sheet, body))
 }
 
 // Its sequence, where it has one: how many segments. Each takes nine bytes after the byte that begins the sequence.
-pub fn sheet_sequence(sheet: &[u8], l: Layout) -> MaybeSequence
-    requires { (judged sheet.now ≡ Sound) × (l ≡ layout_of (read_sheet sheet.now)) }
-    ensures { result ≡ sequence_answer (read_sheet sheet.now).sequence }
+pub fn sheet_sequence(sheet: &[u8], l: Layout) -> Option<usize>
+    requires { (judged sheet.now ≡ Ok tt) × (l ≡ layout_of (read_sheet sheet.now)) }
+    ensures { result ≡ option_map length (read_sheet sheet.now).sequence }
 {
     let at = l.sequence;
     if at == l.fade {
-        return MaybeSequence::NoSequence;
+        return None;
     }
     let segments = (l.fade - at - 1) / 9;
-    MaybeSequence::Segments(segments)
+    Some(segments)
 }

@@ -5,7 +5,6 @@ use lib.Dec.{lit<}
 use lib.ListN.{length, get_or, take, drop}
 use mathlib.Core.Bool.{true, true≢false}
 use mathlib.Core.List.{List, ◌∷◌, ◌++◌}
-use mathlib.Core.Option.{Option, none, some}
 use mathlib.Core.Path.{◌≡◌, refl, sym, ap, ◌∙◌}
 use native.Mathlib.Omega.{arith}
 use Rattle.field.specs.BigEndian.{Bytes}
@@ -26,10 +25,12 @@ use Rattle.form.proofs.FormLaws.{size_least, first_sound}
 use Rattle.sheet.specs.Flat.{if_there, flat}
 use Rattle.sheet.specs.Read.{map_option, body_of}
 use Rattle.sheet_read.specs.FormVoice.{form_voice}
-use Rattle.sheet_read.specs.ForCode.{is_some, Readable}
+use Rattle.std.specs.Option.{is_some}
+use Rattle.sheet_read.specs.ForCode.{Readable}
 use Rattle.sheet_read.specs.Parts.{record_part, channel_part, envelope_part, segments_part, text_part}
 use Rattle.sheet_read.proofs.ItemLaws.{Payloads, payloads, first_payload}
 use Rattle.sheet_read.proofs.PlaceLaws.{least_of_lem}
+use Rattle.std.specs.Prelude.{None, Option, Some, Ok}
 
 -- the payloads of a FORM of bytes are bytes
 pub payload_bytes : (f : List ℕ) → Bytes f → (at : ℕ) → Payloads Bytes (items_from f at)
@@ -37,23 +38,23 @@ payload_bytes f b = payloads Bytes f (λ start n. bytes_take n (drop start f) (b
 
 -- ---- a record
 
-module _ (f : List ℕ) (bytes : Bytes f) (sound : first_bad (items_from f 12) ≡ 0) where
+module _ (f : List ℕ) (bytes : Bytes f) (sound : first_bad (items_from f 12) ≡ Ok tt) where
   record_written : {A : Type 0} (id kind n : ℕ) (read : List ℕ → A) (write : A → List ℕ) → get_or least (kind_of id) 0 ≡ n
       → ((l : List ℕ) → Bytes l → n ≤ length l → write (read l) ≡ take n l)
       → if_there (λ a. kind ∷ write a) (map_option read (first_of id (items_from f 12))) ≡ record_part id kind n (items_from f 12)
   record_written {A} id kind n read write long again = go (first_of id (items_from f 12)) refl
     where
       go : (o : Option (List ℕ)) → first_of id (items_from f 12) ≡ o → if_there (λ (a : A). kind ∷ write a) (map_option read o) ≡ if_there (λ b. kind ∷ take n b) o
-      go none e = refl
-      go (some b) e =
+      go None e = refl
+      go (Some b) e =
           let right = first_sound id (items_from f 12) sound b e in
           let fits : n ≤ length b = omega (arith, size_least (kind_of id) (length b) right.0) in
           ap (λ (l : List ℕ). kind ∷ l) (again b (first_payload Bytes id (items_from f 12) (payload_bytes f bytes 12) b e) fits)
 
 -- the header, where there is one
 header_there : (o : Option (List ℕ)) → is_some o ≡ true → 1 ∷ header_bytes (header_of (body_of o)) ≡ if_there (λ h. 1 ∷ header_bytes h) (map_option header_of o)
-header_there none e = absurd (true≢false (sym e))
-header_there (some b) e = refl
+header_there None e = absurd (true≢false (sym e))
+header_there (Some b) e = refl
 
 -- the parts of a sheet, with the three records that are written from values
 abbrev joined : List Item → List ℕ → List ℕ → List ℕ → List ℕ

@@ -28,6 +28,7 @@ use Rattle.sheet.specs.Voice.{Text}
 use Rattle.sheet_read.specs.FormVoice.{text_key, text_of, texts_of}
 use Rattle.sheet_read.specs.Parts.{text_part}
 use Rattle.sheet_read.proofs.ItemLaws.{Payloads}
+use Rattle.refusal.specs.declared.Refusal.{Refusal}
 
 -- ---- keys
 
@@ -102,9 +103,9 @@ pub texts_none : text_part [] ≡ []
 unfolding texts_of
 texts_none = refl
 
-pub texts_bad : (number : ℕ) (items : List Item) → text_part (bad number ∷ items) ≡ []
+pub texts_bad : (refusal : Refusal) (items : List Item) → text_part (bad refusal ∷ items) ≡ []
 unfolding texts_of
-texts_bad number items = refl
+texts_bad refusal items = refl
 
 pub texts_more : (id : ℕ) (b : List ℕ) (items : List Item) → text_part (chunk id b ∷ items) ≡ each flat_text (text_of (text_key id) (clean b)) ++ text_part items
 unfolding texts_of
@@ -115,7 +116,7 @@ pub all_texts : (P : Text → Type 0) (R : List ℕ → Type 0)
     → (items : List Item) → Payloads R items → All P (texts_of items)
 unfolding texts_of
 all_texts P R one [] h = tt
-all_texts P R one (bad number ∷ items) h = tt
+all_texts P R one (bad refusal ∷ items) h = tt
 all_texts P R one (chunk id b ∷ items) h =
     let later = all_texts P R one items h.1 in
     text_cases (λ ts. All P (ts ++ texts_of items)) (text_key id) (clean b) later (λ k t. (one id b h.0 k t, later))

@@ -8,7 +8,6 @@ use lib.Dec.{lit<}
 use mathlib.Core.Bool.{true}
 use mathlib.Core.List.{List, [], map}
 use mathlib.Core.Logic.{⊎_elim}
-use mathlib.Core.Option.{Option, none, some}
 use mathlib.Core.Path.{◌≡◌, refl}
 use native.Mathlib.Omega.{arith}
 use Rattle.field.specs.BigEndian.{Bytes}
@@ -30,6 +29,7 @@ use Rattle.sheet_read.proofs.FitLaws.{pan_fits, point_fits, segment_fits, fade_f
 use Rattle.sheet_read.proofs.FlatLaws.{payload_bytes}
 use Rattle.sheet_read.proofs.ItemLaws.{Payloads, any_payloads, first_payload, all_payloads}
 use Rattle.sheet_read.proofs.TextLaws.{key_most, all_texts}
+use Rattle.std.specs.Prelude.{None, Option, Some}
 
 -- ---- numbers fit
 
@@ -38,15 +38,15 @@ module _ (items : List Item) (bytes : Payloads Bytes items) where
   first_bytes id = go (first_of id items) refl
     where
       go : (o : Option (List ℕ)) → first_of id items ≡ o → Bytes (body_of o)
-      go none e = λ i. omega arith
-      go (some b) e = first_payload Bytes id items bytes b e
+      go None e = λ i. omega arith
+      go (Some b) e = first_payload Bytes id items bytes b e
 
   first_fits : {A : Type 0} (id : ℕ) (read : List ℕ → A) (F : A → Type 0) → ((l : List ℕ) → Bytes l → F (read l)) → IfThere F (map_option read (first_of id items))
   first_fits id read F fits = go (first_of id items) (first_bytes id)
     where
       go : (o : Option (List ℕ)) → Bytes (body_of o) → IfThere F (map_option read o)
-      go none b = tt
-      go (some l) b = fits l b
+      go None b = tt
+      go (Some l) b = fits l b
 
   envelopes_fit : (id : ℕ) → All (All PointFits) (map envelope_points (all_of id items))
   envelopes_fit id =

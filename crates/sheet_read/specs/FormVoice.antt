@@ -1,6 +1,5 @@
 -- The voice that a FORM's chunks say.
-use Rattle.std.specs.Prelude.{ℕ, zero, suc, List, [], ◌∷◌, ◌++◌, map}
-use Rattle.std.proofs.Math.Option.{Option, none, some}
+use Rattle.std.specs.Prelude.{ℕ, zero, suc, List, [], ◌∷◌, ◌++◌, map, None, Option, Some}
 use Rattle.field.specs.BigEndian.{big_endian}
 use Rattle.header.specs.Header.{header_of}
 use Rattle.small_chunks.specs.Channel.{channel_of}
@@ -18,8 +17,8 @@ use Rattle.sheet.specs.Read.{map_option, known_channel, body_of}
 
 -- the assignment of a CHAN
 abbrev pub chunk_channel : Option (List ℕ) → Option ChannelAssignment
-chunk_channel none = none
-chunk_channel (some b) = known_channel (channel_of (big_endian 4 b))
+chunk_channel None = None
+chunk_channel (Some b) = known_channel (channel_of (big_endian 4 b))
 
 -- the key of a text chunk's name: title, artist, comment, copyright, characters are 1 to 5; 0 for any other name
 unfoldable pub text_key : ℕ → ℕ
@@ -34,7 +33,7 @@ text_of (suc k) (b ∷ bs) = record { key = suc k; bytes = b ∷ bs } ∷ []
 -- the texts in file order
 unfoldable pub texts_of : List Item → List Text
 texts_of [] = []
-texts_of (bad number ∷ items) = []
+texts_of (bad refusal ∷ items) = []
 texts_of (chunk id b ∷ items) = text_of (text_key id) (clean b) ++ texts_of items
 
 -- all of it

@@ -7,40 +7,36 @@ ghost use Rattle.form.specs.FirstBad.{first_bad};
 ghost use Rattle.form.specs.Kind.{kind_of, least};
 ghost use Rattle.sheet_read.specs.Parts.{record_part, channel_part, envelope_part, segments_part};
 
-use chunk::{ChunkStep, chunk_at};
+use chunk::chunk_at;
 use field::{put_byte, put_record, put_tagged};
-use form::{Place, find};
-use small_chunks::{ChannelAssignment, ParsedChannel};
+use form::find;
+use small_chunks::ChannelAssignment;
 
 // A record of a kind whose body is the first n bytes of the chunk of a name, where there is one.
 pub(crate) fn put_part(form: &[u8], id: u32, kind: u8, n: usize, d: &mut [u8], at: usize) -> usize
-    requires { (first_bad (items_from form.now 12) ≡ 0) × (n ≡ get_or least (kind_of id) 0) × (n < 21) × (at < 2 ^ 62) }
+    requires { (first_bad (items_from form.now 12) ≡ Ok tt) × (n ≡ get_or least (kind_of id) 0) × (n < 21) × (at < 2 ^ 62) }
     ensures { Put d.old at (record_part id kind n (items_from form.now 12)) d.new result }
 {
-    match find(form, id) {
-        Place::Absent => at,
-        Place::At(start, _) => {
-            let end = start + n;
-            put_record(&form[start..end], kind, d, at)
-        }
-    }
+    let Some(place) = find(form, id) else {
+        return at;
+    };
+    let end = place.start + n;
+    put_record(&form[place.start..end], kind, d, at)
 }
 
 // The channel's record.
 pub(crate) fn put_channel(form: &[u8], d: &mut [u8], at: usize) -> usize
-    requires { (first_bad (items_from form.now 12) ≡ 0) × (at < 2 ^ 62) }
+    requires { (first_bad (items_from form.now 12) ≡ Ok tt) × (at < 2 ^ 62) }
     ensures { Put d.old at (channel_part (items_from form.now 12)) d.new result }
 {
-    match find(form, form::CHAN) {
-        Place::Absent => at,
-        Place::At(start, size) => {
-            let end = start + size;
-            match ChannelAssignment::parse(&form[start..end]) {
-                ParsedChannel::Refused(_) => at,
-                ParsedChannel::Parsed(c) => sheet::put_channel(c, d, at),
-            }
-        }
-    }
+    let Some(place) = find(form, form::CHAN) else {
+        return at;
+    };
+    let end = place.start + place.size;
+    let Ok(c) = ChannelAssignment::parse(&form[place.start..end]) else {
+        return at;
+    };
+    sheet::put_channel(c, d, at)
 }
 
 // A kind that begins a group, then a payload as its members of n bytes.
@@ -59,16 +55,14 @@ pub(crate) fn put_envelopes(form: &[u8], id: u32, kind: u8, d: &mut [u8], at: us
 {
     let mut o = at;
     let mut p = 12;
-    loop {
-        let ChunkStep::Chunk(name, start, size, next) = chunk_at(form, p) else {
-            return o;
-        };
-        if name == id {
-            let end = start + size;
-            o = put_group(&form[start..end], kind, 6, 6, d, o);
+    while let Some(chunk) = chunk_at(form, p).unwrap_or(None) {
+        if chunk.id == id {
+            let end = chunk.start + chunk.size;
+            o = put_group(&form[chunk.start..end], kind, 6, 6, d, o);
         }
-        p = next;
+        p = chunk.next;
     }
+    o
 }
 
 // The sequence, where there is one.
@@ -76,11 +70,9 @@ pub(crate) fn put_sequence(form: &[u8], d: &mut [u8], at: usize) -> usize
     requires { at + length (segments_part (items_from form.now 12)) < 2 ^ 63 }
     ensures { Put d.old at (segments_part (items_from form.now 12)) d.new result }
 {
-    match find(form, form::SEQN) {
-        Place::Absent => at,
-        Place::At(start, size) => {
-            let end = start + size;
-            put_group(&form[start..end], 7, 8, 8, d, at)
-        }
-    }
+    let Some(place) = find(form, form::SEQN) else {
+        return at;
+    };
+    let end = place.start + place.size;
+    put_group(&form[place.start..end], 7, 8, 8, d, at)
 }

@@ -8,7 +8,7 @@ ghost use Rattle.text.specs.Text.{clean};
 ghost use Rattle.sheet_read.specs.FormVoice.{text_key, text_of};
 ghost use Rattle.sheet_read.specs.Parts.{text_part};
 
-use chunk::{ChunkStep, chunk_at};
+use chunk::chunk_at;
 use form::{ANNO, AUTH, CHRS, COPYRIGHT, NAME};
 use text::clean_len;
 
@@ -47,12 +47,10 @@ pub(crate) fn put_texts(form: &[u8], d: &mut [u8], at: usize) -> usize
 {
     let mut o = at;
     let mut p = 12;
-    loop {
-        let ChunkStep::Chunk(id, start, size, next) = chunk_at(form, p) else {
-            return o;
-        };
-        let end = start + size;
-        o = put_text(text_key(id), &form[start..end], d, o);
-        p = next;
+    while let Some(chunk) = chunk_at(form, p).unwrap_or(None) {
+        let end = chunk.start + chunk.size;
+        o = put_text(text_key(chunk.id), &form[chunk.start..end], d, o);
+        p = chunk.next;
     }
+    o
 }

@@ -7,7 +7,8 @@ ghost use Rattle.std.specs.Prelude.{◌≡◌};
 ghost use Rattle.sheet.specs.Record.{record_at};
 ghost use Rattle.sheet_records.specs.Steps.{place_after, moved_by};
 
-use sheet::{RecordStep, record_at};
+use refusal::Refusal;
+use sheet::{Record, record_at};
 
 // A sheet and a place in it.
 #[derive(Clone, Copy)]
@@ -17,13 +18,12 @@ pub struct SheetReader<'a> {
 }
 
 // Where a reader stands after a step: past a record, and where it was otherwise.
-pub fn place_after(step: RecordStep, at: usize) -> usize
+pub fn place_after(step: Result<Option<Record>, Refusal>, at: usize) -> usize
     ensures { result ≡ place_after step at }
 {
     match step {
-        RecordStep::Record(_, _, next) => next,
-        RecordStep::Refused(_) => at,
-        RecordStep::End => at,
+        Ok(Some(record)) => record.next,
+        _ => at,
     }
 }
 
@@ -35,7 +35,7 @@ pub fn new<'a>(sheet: &'a [u8]) -> SheetReader<'a>
 }
 
 // The record where the reader stands.
-pub fn next<'a>(r: SheetReader<'a>) -> RecordStep
+pub fn next<'a>(r: SheetReader<'a>) -> Result<Option<Record>, Refusal>
     ensures { result ≡ record_at r.entry.sheet.now r.entry.at }
 {
     record_at(r.sheet, r.at)
@@ -49,7 +49,7 @@ pub fn moved<'a>(r: SheetReader<'a>, at: usize) -> SheetReader<'a>
 }
 
 // The record where the reader stands; the reader moves past it. At the end, at an unknown kind and at a cut record it stays.
-pub fn advance<'s, 'a>(r: &'s mut SheetReader<'a>) -> RecordStep
+pub fn advance<'s, 'a>(r: &'s mut SheetReader<'a>) -> Result<Option<Record>, Refusal>
     ensures { (result ≡ record_at r.old.sheet.now r.old.at) × (r.new ≡ moved_by r.old result) }
 {
     let at = r.at;
@@ -60,7 +60,7 @@ pub fn advance<'s, 'a>(r: &'s mut SheetReader<'a>) -> RecordStep
 }
 
 // The record at a place, by a reader of its own.
-pub fn read_step(sheet: &[u8], at: usize) -> RecordStep
+pub fn read_step(sheet: &[u8], at: usize) -> Result<Option<Record>, Refusal>
     ensures { result ≡ record_at sheet.now at }
 {
     next(moved(new(sheet), at))

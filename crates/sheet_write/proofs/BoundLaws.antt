@@ -5,7 +5,6 @@
 use Prim.Native.Nat.{ℕ, ◌+◌, ◌*◌, ◌≤◌, zero-le}
 use lib.ListN.{length, length-append}
 use mathlib.Core.List.{List, [], ◌∷◌, ◌++◌}
-use mathlib.Core.Option.{Option, none, some}
 use mathlib.Core.Path.{◌≡◌, ap}
 use native.Mathlib.Nat.{mul-add}
 use native.Mathlib.Omega.{arith}
@@ -21,7 +20,6 @@ use Rattle.sheet.specs.Flat.{if_there, flat_text, flat}
 use Rattle.sheet.specs.Judge.{judged}
 use Rattle.sheet.specs.Read.{read_sheet}
 use Rattle.sheet.specs.Voice.{Text, Voice}
-use Rattle.sheet.specs.declared.judge.Judged.TheVariants.{Sound}
 use Rattle.small_chunks.proofs.FieldLaws.{point_length, segment_length_lem}
 use Rattle.small_chunks.specs.Channel.{channel_value_of}
 use Rattle.small_chunks.specs.Envelope.{point_bytes}
@@ -32,6 +30,7 @@ use Rattle.small_chunks.specs.declared.points.EgPoint.{EgPoint}
 use Rattle.small_chunks.specs.declared.sequence.SeqnSegment.{SeqnSegment}
 use Rattle.sheet_write.proofs.GroupChunks.{each_byte}
 use Rattle.sheet_write.specs.VoiceChunks.{text_name, text_chunk, voice_chunks}
+use Rattle.std.specs.Prelude.{None, Ok, Option, Some}
 
 -- c times as long, at most
 record Within (c : ℕ) (xs ys : List ℕ) : Type 0 where
@@ -47,8 +46,8 @@ module _ (c : ℕ) where
     within_each (a ∷ l) = within_append (h a) (within_each l)
 
     within_option : (o : Option A) → Within c (if_there f o) (if_there g o)
-    within_option none = record { is = zero-le }
-    within_option (some a) = h a
+    within_option None = record { is = zero-le }
+    within_option (Some a) = h a
 
   -- the eight parts of a voice
   within_parts : {a b d e f g h i a' b' d' e' f' g' h' i' : List ℕ}
@@ -141,5 +140,5 @@ flat_bound v =
         (omega (arith, text_length t, tagged 11 (λ (b : ℕ). b ∷ []) (λ b. omega arith) t.bytes))
 
 -- of a sound sheet
-pub sheet_bound : (s : List ℕ) → Bytes s → judged s ≡ Sound → length (voice_chunks (read_sheet s)) ≤ 8 * length s
+pub sheet_bound : (s : List ℕ) → Bytes s → judged s ≡ Ok tt → length (voice_chunks (read_sheet s)) ≤ 8 * length s
 sheet_bound s b j = omega (arith, chunks_bound (read_sheet s), ap length (flat_read s b j))

@@ -41,7 +41,7 @@ module _ (m : ℕ) where
 
   cut_sized : {l : List ℕ} {items : List RecordItem} → Cut l items → Sized m l (leading m items)
   cut_sized done = rw (none_stopped m ended) (no_members [])
-  cut_sized (stop {l = l} {n = n} p) = rw (none_stopped m (refused {number = n})) (no_members l)
+  cut_sized (stop {l = l} {refusal = r}) = rw (none_stopped m (refused {refusal = r})) (no_members l)
   cut_sized (next {k = k} {b = b} {l = l} {items = items} w c) = go (eqb k m) refl (cut_sized c)
     where
       go : (t : Bool) → eqb k m ≡ t → Sized m l (leading m items) → Sized m (k ∷ (b ++ l)) (leading m (entry k b ∷ items))

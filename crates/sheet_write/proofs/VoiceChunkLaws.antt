@@ -19,7 +19,6 @@ use Rattle.sheet.specs.Judge.{judged}
 use Rattle.sheet.specs.Read.{read_sheet}
 use Rattle.sheet.specs.Record.{records}
 use Rattle.sheet.specs.Voice.{Voice}
-use Rattle.sheet.specs.declared.judge.Judged.TheVariants.{Sound}
 use Rattle.small_chunks.specs.Channel.{channel_value_of}
 use Rattle.small_chunks.specs.Envelope.{point_bytes}
 use Rattle.small_chunks.specs.Pan.{pan_bytes}
@@ -29,6 +28,7 @@ use Rattle.sheet_write.proofs.RecordChunkLaws.{header_chunk, pan_chunk, attack_c
 use Rattle.sheet_write.proofs.SectionChunks.{group_chunk, sections_chunks}
 use Rattle.sheet_write.specs.RecordChunks.{record_chunks}
 use Rattle.sheet_write.specs.VoiceChunks.{text_chunk, voice_chunks}
+use Rattle.std.specs.Prelude.{Ok}
 
 items_chunks : (v : Voice) → record_chunks (items_of v) ≡ voice_chunks v
 unfolding voice_chunks
@@ -45,7 +45,7 @@ items_chunks v =
       each_map text_group (group_chunk 10) text_chunk text_group_lem v.texts,
     ) (simp (append_assoc, append-nil))
 
-pub chunks_voice : (s : List ℕ) → Bytes s → judged s ≡ Sound → record_chunks (records s) ≡ voice_chunks (read_sheet s)
+pub chunks_voice : (s : List ℕ) → Bytes s → judged s ≡ Ok tt → record_chunks (records s) ≡ voice_chunks (read_sheet s)
 chunks_voice s b j =
     ap (λ (l : List ℕ). record_chunks (records l)) (sym (flat_read s b j))
     ∙ ap record_chunks (flat_records (read_sheet s) (allowed_read s b j))

@@ -28,5 +28,5 @@ record_chunk kind body items =
 -- all of them
 unfoldable pub record_chunks : List RecordItem → List ℕ
 record_chunks [] = []
-record_chunks (bad number ∷ items) = []
+record_chunks (bad refusal ∷ items) = []
 record_chunks (entry kind body ∷ items) = record_chunk kind body items ++ record_chunks items

@@ -7,8 +7,8 @@ ghost use Rattle.sheet.specs.Read.{leading};
 ghost use Rattle.sheet_write.specs.RecordChunks.{members_after};
 
 use chunk::put_head;
-use field::{put_all, put_byte};
-use sheet::{RecordStep, record_at};
+use field::put_all;
+use sheet::record_at;
 
 // How many records of a kind stand from a place on.
 fn member_count(sheet: &[u8], from: usize, member: u8) -> usize
@@ -16,16 +16,14 @@ fn member_count(sheet: &[u8], from: usize, member: u8) -> usize
 {
     let mut p = from;
     let mut m = 0;
-    loop {
-        let RecordStep::Record(kind, _, next) = record_at(sheet, p) else {
-            return m;
-        };
-        if kind != member {
+    while let Some(record) = record_at(sheet, p).unwrap_or(None) {
+        if record.kind != member {
             return m;
         }
         m += 1;
-        p = next;
+        p = record.next;
     }
+    m
 }
 
 // The bodies of the records of a kind that stand from a place on.
@@ -35,16 +33,14 @@ fn put_members(sheet: &[u8], from: usize, member: u8, d: &mut [u8], at: usize) -
 {
     let mut p = from;
     let mut o = at;
-    loop {
-        let RecordStep::Record(kind, start, next) = record_at(sheet, p) else {
-            return o;
-        };
-        if kind != member {
+    while let Some(record) = record_at(sheet, p).unwrap_or(None) {
+        if record.kind != member {
             return o;
         }
-        o = put_all(&sheet[start..next], d, o);
-        p = next;
+        o = put_all(&sheet[record.start..record.next], d, o);
+        p = record.next;
     }
+    o
 }
 
 // So many zero bytes, two at most.
@@ -52,14 +48,7 @@ fn put_zeros(n: usize, d: &mut [u8], at: usize) -> usize
     requires { (n ≤ 2) × (at < 2 ^ 62) }
     ensures { Put d.old at (replicate n 0) d.new result }
 {
-    if n == 0 {
-        return at;
-    }
-    let o = put_byte(d, at, 0);
-    if n == 1 {
-        return o;
-    }
-    put_byte(d, o, 0)
+    put_all(&[0; 2][..n], d, at)
 }
 
 // The chunk of a name whose payload is the members of n bytes that stand from a place on, and so many zero bytes, one at most.

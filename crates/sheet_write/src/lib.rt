@@ -4,20 +4,19 @@
 
 mod group;
 
-ghost use Rattle.std.specs.Prelude.{◌≡◌, [], ◌∷◌, ◌+◌, ◌-◌, ◌^◌, ◌≤◌, ◌<◌, length, take, drop};
+ghost use Rattle.std.specs.Prelude.{◌≡◌, [], ◌∷◌, ◌+◌, ◌-◌, ◌^◌, ◌≤◌, ◌<◌, length, take, drop, Ok};
 ghost use Rattle.laws.specs.Put.{Put};
 ghost use Rattle.chunk.specs.ChunkBytes.{chunk_bytes};
 ghost use Rattle.form.specs.Names.{chan};
 ghost use Rattle.sheet.specs.Judge.{judged};
 ghost use Rattle.sheet.specs.Read.{read_sheet};
 ghost use Rattle.sheet.specs.Record.{records};
-ghost use Rattle.sheet.specs.declared.judge.Judged.TheVariants.{Sound};
 ghost use Rattle.sheet_write.specs.RecordChunks.{record_chunk, record_chunks};
 ghost use Rattle.sheet_write.specs.VoiceChunks.{text_name, voice_chunks};
 
 use chunk::put_chunk;
 use group::put_group;
-use sheet::{RecordStep, record_at};
+use sheet::{Record, record_at};
 
 // The names of text chunks by their keys.
 const TEXT_NAMES: [u32; 6] = [
@@ -32,11 +31,7 @@ const TEXT_NAMES: [u32; 6] = [
 fn text_name(key: u8) -> u32
     ensures { result ≡ text_name key }
 {
-    if 5 < key {
-        return 0;
-    }
-    let k = key as usize;
-    TEXT_NAMES[k]
+    TEXT_NAMES.get(key as usize).copied().unwrap_or(0)
 }
 
 // CHAN, whose value stands in one byte on the sheet.
@@ -47,18 +42,12 @@ fn put_channel(value: u8, d: &mut [u8], at: usize) -> usize
     put_chunk(form::CHAN, &[0, 0, 0, value], d, at)
 }
 
-// The chunk that a record opens: its body lies from `start` to `next`, and its members begin there.
-fn put_record_chunk(
-    sheet: &[u8],
-    kind: u8,
-    start: usize,
-    next: usize,
-    d: &mut [u8],
-    at: usize,
-) -> usize
-    requires { (start ≤ next) × (next ≤ length sheet.now) × (length sheet.now < 2 ^ 34) × (at < 2 ^ 60) × ((kind ≡ 2 → next ≡ start + 1)) × ((kind ≡ 10 → next ≡ start + 1)) }
-    ensures { Put d.old at (record_chunk kind (take (next - start) (drop start sheet.now)) (records (drop next sheet.now))) d.new result }
+// The chunk that a record opens: its members begin where its body ends.
+fn put_record_chunk(sheet: &[u8], opener: Record, d: &mut [u8], at: usize) -> usize
+    requires { (opener.start ≤ opener.next) × (opener.next ≤ length sheet.now) × (length sheet.now < 2 ^ 34) × (at < 2 ^ 60) × ((opener.kind ≡ 2 → opener.next ≡ opener.start + 1)) × ((opener.kind ≡ 10 → opener.next ≡ opener.start + 1)) }
+    ensures { Put d.old at (record_chunk opener.kind (take (opener.next - opener.start) (drop opener.start sheet.now)) (records (drop opener.next sheet.now))) d.new result }
 {
+    let Record { kind, start, next } = opener;
     match kind {
         1 => put_chunk(form::VHDR, &sheet[start..next], d, at),
         2 => put_channel(sheet[start], d, at),
@@ -79,18 +68,16 @@ fn put_records(sheet: &[u8], d: &mut [u8], at: usize) -> usize
 {
     let mut p = 0;
     let mut o = at;
-    loop {
-        let RecordStep::Record(kind, start, next) = record_at(sheet, p) else {
-            return o;
-        };
-        o = put_record_chunk(sheet, kind, start, next, d, o);
-        p = next;
+    while let Some(record) = record_at(sheet, p).unwrap_or(None) {
+        o = put_record_chunk(sheet, record, d, o);
+        p = record.next;
     }
+    o
 }
 
 // The chunks of a sound sheet from a place on.
 pub fn put_chunks(sheet: &[u8], d: &mut [u8], at: usize) -> usize
-    requires { (judged sheet.now ≡ Sound) × (length sheet.now < 2 ^ 34) × (at < 2 ^ 34) }
+    requires { (judged sheet.now ≡ Ok tt) × (length sheet.now < 2 ^ 34) × (at < 2 ^ 34) }
     ensures { Put d.old at (voice_chunks (read_sheet sheet.now)) d.new result }
 {
     put_records(sheet, d, at)
@@ -98,7 +85,7 @@ pub fn put_chunks(sheet: &[u8], d: &mut [u8], at: usize) -> usize
 
 // How long they are.
 pub fn chunks_length(sheet: &[u8]) -> usize
-    requires { (judged sheet.now ≡ Sound) × (length sheet.now < 2 ^ 34) }
+    requires { (judged sheet.now ≡ Ok tt) × (length sheet.now < 2 ^ 34) }
     ensures { (result ≡ length (voice_chunks (read_sheet sheet.now))) × (result < 2 ^ 38) }
 {
     let mut nowhere = [0u8; 0];

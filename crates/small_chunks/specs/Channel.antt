@@ -1,21 +1,20 @@
 -- CHAN: on which speaker a mono voice plays, or that there are two channels.
-use Rattle.std.specs.Prelude.{ℕ, Bool, true, false, cond, List, eqb, ltb, length}
-use Rattle.refusal.specs.Numbers.{chunk_length, channel_value}
+use Rattle.std.specs.Prelude.{ℕ, Bool, true, false, cond, List, eqb, ltb, length, Err, Ok}
 use Rattle.field.specs.BigEndian.{big_endian}
 use Rattle.small_chunks.specs.declared.channel.ChannelAssignment.{ChannelAssignment}
 use Rattle.small_chunks.specs.declared.channel.ChannelAssignment.TheVariants.{Left, Right, Stereo}
-use Rattle.small_chunks.specs.declared.channel.ParsedChannel.{ParsedChannel}
-use Rattle.small_chunks.specs.declared.channel.ParsedChannel.TheVariants.{Parsed, Refused}
+use Rattle.refusal.specs.declared.Refusal.TheVariants.{ChunkLength, ChannelValue}
+use Rattle.refusal.specs.Outcome.{Outcome}
 
 -- 2 is left, 4 is right, 6 is both, and any other value is refused by 7
-abbrev pub channel_of : ℕ → ParsedChannel
+abbrev pub channel_of : ℕ → Outcome ChannelAssignment
 channel_of v =
-    cond (eqb v 2) (Parsed Left) (cond (eqb v 4) (Parsed Right) (cond (eqb v 6) (Parsed Stereo) (Refused channel_value)))
+    cond (eqb v 2) (Ok Left) (cond (eqb v 4) (Ok Right) (cond (eqb v 6) (Ok Stereo) (Err ChannelValue)))
 
 -- there is an assignment
-abbrev pub is_parsed : ParsedChannel → Bool
-is_parsed (Parsed c) = true
-is_parsed (Refused number) = false
+abbrev pub is_parsed : Outcome ChannelAssignment → Bool
+is_parsed (Ok c) = true
+is_parsed (Err refusal) = false
 
 -- the values of CHAN: those that stand for an assignment
 abbrev pub is_channel : ℕ → Bool
@@ -34,5 +33,5 @@ channel_count Right = 1
 channel_count Stereo = 2
 
 -- a chunk under 4 bytes is refused by 6, before its value is looked at
-abbrev pub parsed_channel : List ℕ → ParsedChannel
-parsed_channel l = cond (ltb (length l) 4) (Refused chunk_length) (channel_of (big_endian 4 l))
+abbrev pub parsed_channel : List ℕ → Outcome ChannelAssignment
+parsed_channel l = cond (ltb (length l) 4) (Err ChunkLength) (channel_of (big_endian 4 l))

@@ -1,14 +1,13 @@
 -- PAN: where a mono voice stands between the speakers, from 0 (right) to 65,536 (left).
-use Rattle.std.specs.Prelude.{ℕ, min, false, cond, List, ltb, ℤ, pos, negsuc, Float, length}
+use Rattle.std.specs.Prelude.{ℕ, min, false, cond, List, ltb, ℤ, pos, negsuc, Float, length, Err, Ok}
 use Rattle.std.specs.Float.{fin, binary32}
 use Rattle.std.specs.Float.Ieee.{div, sub, of_int}
-use Rattle.refusal.specs.Numbers.{chunk_length}
 use Rattle.field.specs.BigEndian.{big_endian, big_endian_bytes}
 use Rattle.field.specs.Signed.{signed32, bits32}
 use Rattle.small_chunks.specs.declared.pan.Pan.{Pan}
 use Rattle.small_chunks.specs.declared.pan.PanWeights.{PanWeights}
-use Rattle.small_chunks.specs.declared.pan.ParsedPan.{ParsedPan}
-use Rattle.small_chunks.specs.declared.pan.ParsedPan.TheVariants.{Parsed, Refused}
+use Rattle.refusal.specs.declared.Refusal.TheVariants.{ChunkLength}
+use Rattle.refusal.specs.Outcome.{Outcome}
 
 -- four bytes, signed
 unfoldable pub pan_of : List ℕ → Pan
@@ -19,8 +18,8 @@ unfoldable pub pan_bytes : Pan → List ℕ
 pan_bytes p = big_endian_bytes 4 (bits32 p.position)
 
 -- a chunk under 4 bytes is refused by 6; what lies past them is ignored
-abbrev pub parsed_pan : List ℕ → ParsedPan
-parsed_pan l = cond (ltb (length l) 4) (Refused chunk_length) (Parsed (pan_of l))
+abbrev pub parsed_pan : List ℕ → Outcome Pan
+parsed_pan l = cond (ltb (length l) 4) (Err ChunkLength) (Ok (pan_of l))
 
 -- a signed 16.16 number held within 0..65,536
 unfoldable pub held_to_unity : ℤ → ℕ

@@ -1,14 +1,11 @@
 -- SEQN's segments, and FADE, which names one of them.
-use Rattle.std.specs.Prelude.{ℕ, ◌-◌, ◌%◌, Bool, ◌&&◌, cond, List, ◌++◌, map, eqb, leb, ltb, length, drop}
-use Rattle.refusal.specs.Numbers.{chunk_length, segment}
+use Rattle.std.specs.Prelude.{ℕ, ◌-◌, ◌%◌, Bool, ◌&&◌, cond, List, ◌++◌, map, eqb, leb, ltb, length, drop, Err, Ok, ⊤}
 use Rattle.field.specs.BigEndian.{big_endian, big_endian_bytes}
 use Rattle.field.specs.Tagged.{parts}
 use Rattle.small_chunks.specs.declared.sequence.Fade.{Fade}
 use Rattle.small_chunks.specs.declared.sequence.SeqnSegment.{SeqnSegment}
-use Rattle.small_chunks.specs.declared.sequence.ParsedFade.{ParsedFade}
-use Rattle.small_chunks.specs.declared.sequence.ParsedFade.TheVariants.{Parsed, Refused}
-use Rattle.small_chunks.specs.declared.sequence.Validity.{Validity}
-use Rattle.small_chunks.specs.declared.sequence.Validity.TheVariants as validity
+use Rattle.refusal.specs.declared.Refusal.TheVariants.{ChunkLength, Segment}
+use Rattle.refusal.specs.Outcome.{Outcome}
 
 -- the segment of eight bytes: start and end in the highest octave
 unfoldable pub segment_of : List ℕ → SeqnSegment
@@ -31,8 +28,8 @@ abbrev pub segment_valid : SeqnSegment → ℕ → Bool
 segment_valid s hi = eqb (s.start % 4) 0 && eqb (s.end % 4) 0 && leb s.start s.end && leb s.end hi
 
 -- a segment that is not valid is refused by 21
-abbrev pub segment_verdict : SeqnSegment → ℕ → Validity
-segment_verdict s hi = cond (segment_valid s hi) validity.Valid (validity.Refused segment)
+abbrev pub segment_verdict : SeqnSegment → ℕ → Outcome ⊤
+segment_verdict s hi = cond (segment_valid s hi) (Ok tt) (Err Segment)
 
 -- four bytes: the segment, counted from 0, at which the fade begins
 unfoldable pub fade_of : List ℕ → Fade
@@ -43,5 +40,5 @@ unfoldable pub fade_bytes : Fade → List ℕ
 fade_bytes f = big_endian_bytes 4 f.segment
 
 -- a chunk under 4 bytes is refused by 6; what lies past them is ignored
-abbrev pub parsed_fade : List ℕ → ParsedFade
-parsed_fade l = cond (ltb (length l) 4) (Refused chunk_length) (Parsed (fade_of l))
+abbrev pub parsed_fade : List ℕ → Outcome Fade
+parsed_fade l = cond (ltb (length l) 4) (Err ChunkLength) (Ok (fade_of l))

@@ -3,6 +3,8 @@ ghost use Rattle.std.specs.Prelude.{◌≡◌};
 ghost use Rattle.field.specs.BigEndian.{big_endian_bytes};
 ghost use Rattle.small_chunks.specs.Channel.{channel_of, is_channel, channel_value_of, channel_count, parsed_channel};
 
+use refusal::Refusal;
+
 #[derive(Clone, Copy)]
 pub enum ChannelAssignment {
     // 2: mono, on the left.
@@ -13,45 +15,36 @@ pub enum ChannelAssignment {
     Stereo,
 }
 
-#[derive(Clone, Copy)]
-pub enum ParsedChannel {
-    Parsed(ChannelAssignment),
-    Refused(u8),
-}
-
 // That a value stands for an assignment.
 pub fn is_channel(v: u32) -> bool
     ensures { result ≡ is_channel v }
 {
-    match ChannelAssignment::from_raw(v) {
-        ParsedChannel::Parsed(_) => true,
-        ParsedChannel::Refused(_) => false,
-    }
+    ChannelAssignment::from_raw(v).is_ok()
 }
 
 impl ChannelAssignment {
     // The assignment that a value stands for; 7 where there is none.
-    pub fn from_raw(v: u32) -> ParsedChannel
+    pub fn from_raw(v: u32) -> Result<ChannelAssignment, Refusal>
         ensures { result ≡ channel_of v }
     {
         if v == 2 {
-            return ParsedChannel::Parsed(ChannelAssignment::Left);
+            return Ok(ChannelAssignment::Left);
         }
         if v == 4 {
-            return ParsedChannel::Parsed(ChannelAssignment::Right);
+            return Ok(ChannelAssignment::Right);
         }
         if v == 6 {
-            return ParsedChannel::Parsed(ChannelAssignment::Stereo);
+            return Ok(ChannelAssignment::Stereo);
         }
-        ParsedChannel::Refused(refusal::CHANNEL_VALUE)
+        Err(Refusal::ChannelValue)
     }
 
     // The assignment of a CHAN chunk: all four bytes count.
-    pub fn parse(body: &[u8]) -> ParsedChannel
+    pub fn parse(body: &[u8]) -> Result<ChannelAssignment, Refusal>
         ensures { result ≡ parsed_channel body.now }
     {
         if body.len() < 4 {
-            return ParsedChannel::Refused(refusal::CHUNK_LENGTH);
+            return Err(Refusal::ChunkLength);
         }
         let v = field::read32(body, 0);
         ChannelAssignment::from_raw(v)

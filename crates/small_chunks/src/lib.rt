@@ -10,7 +10,7 @@ mod pan;
 mod points;
 mod sequence;
 
-pub use channel::{ChannelAssignment, ParsedChannel, is_channel};
-pub use pan::{Pan, PanWeights, ParsedPan, held_to_unity, read_pan};
+pub use channel::{ChannelAssignment, is_channel};
+pub use pan::{Pan, PanWeights, held_to_unity, read_pan};
 pub use points::{EgPoint, read_point};
-pub use sequence::{Fade, ParsedFade, SeqnSegment, Validity, read_fade, read_segment};
+pub use sequence::{Fade, SeqnSegment, read_fade, read_segment};

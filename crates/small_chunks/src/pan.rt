@@ -2,16 +2,12 @@
 ghost use Rattle.std.specs.Prelude.{◌≡◌, ◌+◌, ◌≤◌, length, drop};
 ghost use Rattle.small_chunks.specs.Pan.{pan_of, pan_bytes, parsed_pan, held_to_unity, pan_weights};
 
+use refusal::Refusal;
+
 #[derive(Clone, Copy)]
 pub struct Pan {
     // 0 is right, 65,536 is left.
     pub position: i32,
-}
-
-#[derive(Clone, Copy)]
-pub enum ParsedPan {
-    Parsed(Pan),
-    Refused(u8),
 }
 
 // How much of the voice each speaker gets: together 1.
@@ -46,13 +42,13 @@ pub fn read_pan(s: &[u8], at: usize) -> Pan
 
 impl Pan {
     // The position of a PAN chunk.
-    pub fn parse(body: &[u8]) -> ParsedPan
+    pub fn parse(body: &[u8]) -> Result<Pan, Refusal>
         ensures { result ≡ parsed_pan body.now }
     {
         if body.len() < 4 {
-            return ParsedPan::Refused(refusal::CHUNK_LENGTH);
+            return Err(Refusal::ChunkLength);
         }
-        ParsedPan::Parsed(read_pan(body, 0))
+        Ok(read_pan(body, 0))
     }
 
     // The four bytes of PAN.

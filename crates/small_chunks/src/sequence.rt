@@ -2,17 +2,13 @@
 ghost use Rattle.std.specs.Prelude.{◌≡◌, ◌+◌, ◌≤◌, leb, ltb, length, drop};
 ghost use Rattle.small_chunks.specs.Sequence.{segment_of, segment_bytes, segment_length, segment_verdict, fade_of, fade_bytes, parsed_fade};
 
+use refusal::Refusal;
+
 // A range of samples of the highest octave.
 #[derive(Clone, Copy)]
 pub struct SeqnSegment {
     pub start: u32,
     pub end: u32,
-}
-
-#[derive(Clone, Copy)]
-pub enum Validity {
-    Valid,
-    Refused(u8),
 }
 
 // The eight bytes from `at` on.
@@ -55,22 +51,22 @@ impl SeqnSegment {
     }
 
     // That it may be played: offsets in steps of 4, in order and within the highest octave, which is `hi` long; else 21.
-    pub fn validate(self, hi: u64) -> Validity
+    pub fn validate(self, hi: u64) -> Result<(), Refusal>
         ensures { result ≡ segment_verdict self hi }
     {
         if self.start % 4 != 0 {
-            return Validity::Refused(refusal::SEGMENT);
+            return Err(Refusal::Segment);
         }
         if self.end % 4 != 0 {
-            return Validity::Refused(refusal::SEGMENT);
+            return Err(Refusal::Segment);
         }
         if self.end < self.start {
-            return Validity::Refused(refusal::SEGMENT);
+            return Err(Refusal::Segment);
         }
         if hi < self.end as u64 {
-            return Validity::Refused(refusal::SEGMENT);
+            return Err(Refusal::Segment);
         }
-        Validity::Valid
+        Ok(())
     }
 }
 
@@ -78,12 +74,6 @@ impl SeqnSegment {
 #[derive(Clone, Copy)]
 pub struct Fade {
     pub segment: u32,
-}
-
-#[derive(Clone, Copy)]
-pub enum ParsedFade {
-    Parsed(Fade),
-    Refused(u8),
 }
 
 // The four bytes from `at` on.
@@ -98,13 +88,13 @@ pub fn read_fade(s: &[u8], at: usize) -> Fade
 
 impl Fade {
     // The segment of a FADE chunk.
-    pub fn parse(body: &[u8]) -> ParsedFade
+    pub fn parse(body: &[u8]) -> Result<Fade, Refusal>
         ensures { result ≡ parsed_fade body.now }
     {
         if body.len() < 4 {
-            return ParsedFade::Refused(refusal::CHUNK_LENGTH);
+            return Err(Refusal::ChunkLength);
         }
-        ParsedFade::Parsed(read_fade(body, 0))
+        Ok(read_fade(body, 0))
     }
 
     // The four bytes of FADE.

@@ -8,83 +8,77 @@
 #![tactic(auto)]
 
 mod chord;
-mod compare;
 mod report;
 mod stem;
 
-ghost use Rattle.std.specs.Prelude.{◌≡◌, ◌<◌, ◌≤◌, length};
+ghost use Rattle.std.specs.Prelude.{◌<◌};
 
-use crate::compare::differing;
-use voice::{Answer, Parsed, parse_voice};
+use print::first;
+use std::io;
+use std::io::Read;
+use voice::parse_voice;
 
-// Standard input's descriptor.
-const STDIN_FILENO: i32 = 0;
-
-fn main() {
+fn main(rt: HostRuntime) -> io::Result<()> {
     let mut file = [0u8; 1024];
-    let n = io::read_full(STDIN_FILENO, &mut file);
-    play_file(&file[..n]);
+    let n = io::copy(&mut rt.reader(), &mut file.as_mut_slice())?;
+    play_file(&rt, first(&file, n as usize))
 }
 
-fn smaller(a: usize, b: usize) -> usize
-    ensures { result ≤ b }
-{
-    if a < b {
-        return a;
-    }
-    b
+// A voice that was read: its sheet, and the samples of both sides.
+#[derive(Clone, Copy)]
+struct Voice<'a> {
+    sheet: &'a [u8],
+    left: &'a [i8],
+    right: &'a [i8],
 }
 
 // The voice of a file, each part in a buffer that is cut to its length.
-fn play_file(file: &[u8]) {
+fn play_file(rt: &impl Print, file: &[u8]) -> io::Result<()> {
     let mut sheet = [0u8; 1024];
     let mut left = [0i8; 1024];
     let mut right = [0i8; 1024];
     match parse_voice(file, &mut sheet, &mut left, &mut right) {
-        Parsed::Refused(number) => report::refused(number),
-        Parsed::Voice(l) => {
-            let s = smaller(l.sheet, 1024);
-            let a = smaller(l.left, 1024);
-            let b = smaller(l.right, 1024);
-            play_voice(&sheet[..s], &left[..a], &right[..b]);
+        Err(refusal) => println!(rt; "refused by {}", refusal.number()),
+        Ok(l) => {
+            let voice = Voice {
+                sheet: first(&sheet, l.sheet),
+                left: first(&left, l.left),
+                right: first(&right, l.right),
+            };
+            play_note(rt, voice)?;
+            chord::mix_voice(rt, voice)
         }
     }
 }
 
-// One note, and then a chord.
-fn play_voice(sheet: &[u8], left: &[i8], right: &[i8]) {
-    play_note(sheet, left, right);
-    chord::mix_voice(sheet, left, right);
-}
-
 // The first stem, with its frames at the start, around the key-up and where the note ends; then the others.
-fn play_note(sheet: &[u8], left: &[i8], right: &[i8]) {
+fn play_note(rt: &impl Print, voice: Voice) -> io::Result<()> {
     let mut first = [0i16; 4000];
-    match stem::play(sheet, left, right, 1, &mut first) {
-        Answer::Refused(number) => report::refused(number),
-        Answer::Sounding(n) => {
-            report::frames(&first, 0);
-            report::frames(&first, 996);
-            report::frames(&first, 1796);
-            report::stem(1, &first, n);
-            print::say(b"\n");
-            play_again(sheet, left, right, 7, &first);
-            play_again(sheet, left, right, 64, &first);
-            play_again(sheet, left, right, 1000, &first);
+    match stem::play(voice, 1, &mut first) {
+        Err(number) => println!(rt; "refused by {number}"),
+        Ok(sounding) => {
+            report::frames(rt, &first, 0)?;
+            report::frames(rt, &first, 996)?;
+            report::frames(rt, &first, 1796)?;
+            report::stem(rt, 1, &first, sounding)?;
+            println!(rt;)?;
+            play_again(rt, voice, 7, &first)?;
+            play_again(rt, voice, 64, &first)?;
+            play_again(rt, voice, 1000, &first)
         }
     }
 }
 
 // One more stem, held against the first.
-fn play_again(sheet: &[u8], left: &[i8], right: &[i8], block: usize, first: &[i16])
-    requires { (0 < block) × (length first.now ≡ 4000) }
+fn play_again(rt: &impl Print, voice: Voice, block: usize, first: &[i16]) -> io::Result<()>
+    requires { 0 < block }
 {
     let mut again = [0i16; 4000];
-    match stem::play(sheet, left, right, block, &mut again) {
-        Answer::Refused(number) => report::refused(number),
-        Answer::Sounding(n) => {
-            report::stem(block, &again, n);
-            report::difference(differing(first, &again));
+    match stem::play(voice, block, &mut again) {
+        Err(number) => println!(rt; "refused by {number}"),
+        Ok(sounding) => {
+            report::stem(rt, block, &again, sounding)?;
+            report::difference(rt, first, &again)
         }
     }
 }

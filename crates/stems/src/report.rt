@@ -1,75 +1,46 @@
 // A stem or a mix in print.
 ghost use Rattle.std.specs.Prelude.{◌+◌, ◌*◌, ◌≤◌, length};
 
-use print::{number, say};
+use std::{fmt, io};
 
-// A space and a value.
-fn value(v: i16) {
-    say(b" ");
-    if v < 0 {
-        say(b"-");
-        let below = (!v) as u16;
-        number(below as u64 + 1);
-        return;
-    }
-    let n = v as u16;
-    number(n as u64);
-}
+// Every second value, from the first on, each after a space.
+#[derive(Clone, Copy)]
+struct Side<'a>(&'a [i16]);
 
-// Every second value, from the first on.
-fn one_side(s: &[i16]) {
-    let mut i = 0;
-    while i < s.len() {
-        value(s[i]);
-        i += 2;
+impl fmt::Display for Side<'_> {
+    fn fmt<W: fmt::Write>(&self, f: &mut fmt::Formatter<W>) -> fmt::Result {
+        self.0
+            .iter()
+            .step_by(2)
+            .try_for_each(|value| write!(f, " {value}"))
     }
-    say(b"\n");
 }
 
 // Eight frames of a stem from one on, the left values in a line and the right ones in the next.
-pub fn frames(stem: &[i16], first: usize)
+pub fn frames(rt: &impl Print, stem: &[i16], first: usize) -> io::Result<()>
     requires { 2 * first + 16 ≤ length stem.now }
 {
-    let from = 2 * first;
-    let to = from + 16;
-    let right = from + 1;
-    say(b"frames ");
-    number(first as u64);
-    say(b" to ");
-    number(first as u64 + 7);
-    say(b"\n  left ");
-    one_side(&stem[from..to]);
-    say(b"  right");
-    one_side(&stem[right..to]);
+    let eight = &stem[2 * first..2 * first + 16];
+    println!(rt; "frames {first} to {}", first + 7)?;
+    println!(rt; "  left {}", Side(eight))?;
+    println!(rt; "  right{}", Side(&eight[1..]))
 }
 
 // How many frames a stem has, and how many of them aren't over.
-pub fn stem(block: usize, values: &[i16], sounding: usize) {
-    say(b"blocks of ");
-    number(block as u64);
-    say(b": ");
-    number(values.len() as u64 / 2);
-    say(b" frames, ");
-    number(sounding as u64);
-    say(b" not over");
+pub fn stem(rt: &impl Print, block: usize, values: &[i16], sounding: u64) -> io::Result<()> {
+    print!(rt;
+        "blocks of {block}: {} frames, {sounding} not over",
+        values.len() / 2
+    )
 }
 
 // The place that a mix has come to.
-pub fn mixed(block: usize, place: u32) {
-    say(b"mixed in blocks of ");
-    number(block as u64);
-    say(b" up to ");
-    number(place as u64);
+pub fn mixed(rt: &impl Print, block: usize, place: u32) -> io::Result<()> {
+    print!(rt; "mixed in blocks of {block} up to {place}")
 }
 
-pub fn difference(n: usize) {
-    say(b", ");
-    number(n as u64);
-    say(b" values differ from the first stem\n");
-}
-
-pub fn refused(n: u8) {
-    say(b"refused by ");
-    number(n as u64);
-    say(b"\n");
+// How many values of a later stem, or of a later mix, differ from the first one's.
+pub fn difference(rt: &impl Print, first: &[i16], again: &[i16]) -> io::Result<()> {
+    let n = first.iter().zip(again).filter(|(a, b)| a != b).count();
+    println!(rt; ", {n} values differ from the first stem")
 }

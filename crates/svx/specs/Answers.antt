@@ -1,45 +1,20 @@
--- Answers as they cross to C: a number, 0 where accepted, and lengths that a refused call leaves as they were.
-use Rattle.std.specs.Prelude.{ℕ, List, [], ◌∷◌}
-use Rattle.refusal.specs.declared.Output.{Output}
-use Rattle.refusal.specs.declared.Output.TheVariants as output
-use Rattle.crossing.specs.declared.Crossing.{Crossing}
-use Rattle.crossing.specs.declared.Crossing.TheVariants as crossing
-use Rattle.sheet.specs.declared.judge.Judged.{Judged}
-use Rattle.sheet.specs.declared.judge.Judged.TheVariants as judged
-use Rattle.voice_read.specs.declared.chunks.Parsed.{Parsed}
-use Rattle.voice_read.specs.declared.chunks.Parsed.TheVariants as parsed
+-- Answers as they cross to C: a number, 0 where accepted, and values that a refused call leaves as they were.
+use Rattle.std.specs.Prelude.{ℕ, List, [], ◌∷◌, Err, Ok}
+use Rattle.voice_read.specs.declared.chunks.Lengths.{Lengths}
+use Rattle.refusal.specs.Outcome.{Outcome}
+use Rattle.refusal.specs.Refusal.{number_of}
 
--- the refusal of a reading, or 0
-abbrev pub parsed_number : Parsed → ℕ
-parsed_number (parsed.Voice l) = 0
-parsed_number (parsed.Refused number) = number
+-- the refusal's number, or 0
+abbrev pub refusal_number : {A : Type 0} → Outcome A → ℕ
+refusal_number (Ok a) = 0
+refusal_number (Err refusal) = number_of refusal
 
--- its three lengths: sheet, left, right
-abbrev pub parsed_lengths : Parsed → List ℕ → List ℕ
-parsed_lengths (parsed.Voice l) before = l.sheet ∷ l.left ∷ l.right ∷ []
-parsed_lengths (parsed.Refused number) before = before
+-- what then stands in the place that was lent for the value
+abbrev pub handed : {A : Type 0} → Outcome A → A → A
+handed (Ok a) before = a
+handed (Err refusal) before = before
 
--- the refusal of an output, or 0
-abbrev pub output_number : Output → ℕ
-output_number (output.Length n) = 0
-output_number (output.Refused number) = number
-
--- its length
-abbrev pub output_length : Output → ℕ → ℕ
-output_length (output.Length n) before = n
-output_length (output.Refused number) before = before
-
--- the refusal of a search for a crossing, or 0
-abbrev pub crossing_number : Crossing → ℕ
-crossing_number (crossing.Found i) = 0
-crossing_number (crossing.Refused number) = number
-
--- the place that it found
-abbrev pub crossing_place : Crossing → ℕ → ℕ
-crossing_place (crossing.Found i) before = i
-crossing_place (crossing.Refused number) before = before
-
--- the refusal of a sheet, or 0
-abbrev pub judged_number : Judged → ℕ
-judged_number judged.Sound = 0
-judged_number (judged.Refused number) = number
+-- and in the places for the three lengths of a reading: sheet, left, right
+abbrev pub handed_lengths : Outcome Lengths → List ℕ → List ℕ
+handed_lengths (Ok l) before = l.sheet ∷ l.left ∷ l.right ∷ []
+handed_lengths (Err refusal) before = before

@@ -2,4 +2,3 @@
 pub mod Answers
 pub mod Shapes
 pub mod Notes
-pub mod Mixer

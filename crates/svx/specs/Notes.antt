@@ -1,11 +1,10 @@
 -- Notes as they cross to C: whether one is released, and the key-up's frame, which is 0 while it is held.
-use Rattle.std.specs.Prelude.{ℕ, Bool, true, false, cond}
+use Rattle.std.specs.Prelude.{ℕ, Bool, true, false, cond, Err, Ok}
 use Rattle.note_frame.specs.declared.playing.Key.{Key}
 use Rattle.note_frame.specs.declared.playing.Key.TheVariants.{Held, Released}
 use Rattle.note.specs.declared.Note.{Note}
-use Rattle.note.specs.declared.Answer.{Answer}
-use Rattle.note.specs.declared.Answer.TheVariants.{Sounding, Refused}
 use Rattle.svx.specs.declared.notes.SvxNote.{SvxNote}
+use Rattle.refusal.specs.Outcome.{Outcome}
 
 -- released at a frame, or held: then the frame is ignored
 abbrev pub key_handed_in : Bool → ℕ → Key
@@ -40,12 +39,7 @@ shape_of n = record {
   key_up = key_up_frame n.playing.key;
 }
 
--- the refusal of a fill, or 0
-abbrev pub refusal_of : Answer → ℕ
-refusal_of (Sounding count) = 0
-refusal_of (Refused number) = number
-
 -- how many frames weren't over; 0 where refused
-abbrev pub sounding_of : Answer → ℕ
-sounding_of (Sounding count) = count
-sounding_of (Refused number) = 0
+abbrev pub sounding_of : Outcome ℕ → ℕ
+sounding_of (Ok count) = count
+sounding_of (Err refusal) = 0

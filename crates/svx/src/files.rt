@@ -5,7 +5,7 @@ ghost use Rattle.voice_read.specs.Parsed.{needed_by, after_reading};
 ghost use Rattle.voice_read.specs.ReadVoice.{read_voice};
 ghost use Rattle.voice_write.specs.WriteVoice.{write_sheet};
 ghost use Rattle.wave.specs.Wave.{octave_wave_of};
-ghost use Rattle.svx.specs.Answers.{parsed_number, parsed_lengths, output_number, output_length};
+ghost use Rattle.svx.specs.Answers.{refusal_number, handed_lengths, handed};
 
 use crate::hand::{hand_length, hand_lengths};
 use voice::{
@@ -14,8 +14,8 @@ use voice::{
 
 #[unsafe(no_mangle)]
 pub extern "C" fn svx_voice_lengths(file: &[u8], lengths: &mut [u64; 3]) -> u32
-    ensures result { result ≡ parsed_number (needed_by (read_voice file.now)) }
-    ensures lengths { lengths.new ≡ parsed_lengths (needed_by (read_voice file.now)) lengths.old }
+    ensures result { result ≡ refusal_number (needed_by (read_voice file.now)) }
+    ensures lengths { lengths.new ≡ handed_lengths (needed_by (read_voice file.now)) lengths.old }
 {
     let parsed = voice_lengths(file);
     hand_lengths(parsed, lengths)
@@ -29,8 +29,8 @@ pub extern "C" fn svx_parse_voice(
     right: &mut [i8],
     lengths: &mut [u64; 3],
 ) -> u32
-    ensures result { result ≡ parsed_number (after_reading file.now (record { sheet = sheet.entry.now; left = left.old; right = right.old })).parsed }
-    ensures lengths { lengths.new ≡ parsed_lengths (after_reading file.now (record { sheet = sheet.entry.now; left = left.old; right = right.old })).parsed lengths.old }
+    ensures result { result ≡ refusal_number (after_reading file.now (record { sheet = sheet.entry.now; left = left.old; right = right.old })).parsed }
+    ensures lengths { lengths.new ≡ handed_lengths (after_reading file.now (record { sheet = sheet.entry.now; left = left.old; right = right.old })).parsed lengths.old }
     ensures sheet { sheet.exit.now ≡ (after_reading file.now (record { sheet = sheet.entry.now; left = left.old; right = right.old })).buffers.sheet }
     ensures left { left.new ≡ (after_reading file.now (record { sheet = sheet.entry.now; left = left.old; right = right.old })).buffers.left }
     ensures right { right.new ≡ (after_reading file.now (record { sheet = sheet.entry.now; left = left.old; right = right.old })).buffers.right }
@@ -41,8 +41,8 @@ pub extern "C" fn svx_parse_voice(
 
 #[unsafe(no_mangle)]
 pub extern "C" fn svx_file_length(sheet: &[u8], left: &[i8], right: &[i8], count: &mut u64) -> u32
-    ensures result { result ≡ output_number (length_of (write_sheet sheet.now (record { left = left.entry.now; right = right.now }))) }
-    ensures count { count.new ≡ output_length (length_of (write_sheet sheet.now (record { left = left.entry.now; right = right.now }))) count.old }
+    ensures result { result ≡ refusal_number (length_of (write_sheet sheet.now (record { left = left.entry.now; right = right.now }))) }
+    ensures count { count.new ≡ handed (length_of (write_sheet sheet.now (record { left = left.entry.now; right = right.now }))) count.old }
 {
     let output = file_length(sheet, left, right);
     hand_length(output, count)
@@ -56,8 +56,8 @@ pub extern "C" fn svx_encode_voice(
     file: &mut [u8],
     count: &mut u64,
 ) -> u32
-    ensures result { result ≡ output_number (answer (write_sheet sheet.now (record { left = left.entry.now; right = right.now })) (length file.old)) }
-    ensures count { count.new ≡ output_length (answer (write_sheet sheet.now (record { left = left.entry.now; right = right.now })) (length file.old)) count.old }
+    ensures result { result ≡ refusal_number (answer (write_sheet sheet.now (record { left = left.entry.now; right = right.now })) (length file.old)) }
+    ensures count { count.new ≡ handed (answer (write_sheet sheet.now (record { left = left.entry.now; right = right.now })) (length file.old)) count.old }
     ensures buffer { file.new ≡ buffer_after (write_sheet sheet.now (record { left = left.entry.now; right = right.now })) file.old }
 {
     let output = encode_voice(sheet, left, right, file);
@@ -72,8 +72,8 @@ pub extern "C" fn svx_octave_wave_length(
     octave: u8,
     count: &mut u64,
 ) -> u32
-    ensures result { result ≡ output_number (length_of (octave_wave_of sheet.now (record { left = left.entry.now; right = right.now }) octave)) }
-    ensures count { count.new ≡ output_length (length_of (octave_wave_of sheet.now (record { left = left.entry.now; right = right.now }) octave)) count.old }
+    ensures result { result ≡ refusal_number (length_of (octave_wave_of sheet.now (record { left = left.entry.now; right = right.now }) octave)) }
+    ensures count { count.new ≡ handed (length_of (octave_wave_of sheet.now (record { left = left.entry.now; right = right.now }) octave)) count.old }
 {
     let output = octave_wave_length(sheet, left, right, octave);
     hand_length(output, count)
@@ -88,8 +88,8 @@ pub extern "C" fn svx_octave_wave(
     file: &mut [u8],
     count: &mut u64,
 ) -> u32
-    ensures result { result ≡ output_number (answer (octave_wave_of sheet.now (record { left = left.entry.now; right = right.now }) octave) (length file.old)) }
-    ensures count { count.new ≡ output_length (answer (octave_wave_of sheet.now (record { left = left.entry.now; right = right.now }) octave) (length file.old)) count.old }
+    ensures result { result ≡ refusal_number (answer (octave_wave_of sheet.now (record { left = left.entry.now; right = right.now }) octave) (length file.old)) }
+    ensures count { count.new ≡ handed (answer (octave_wave_of sheet.now (record { left = left.entry.now; right = right.now }) octave) (length file.old)) count.old }
     ensures buffer { file.new ≡ buffer_after (octave_wave_of sheet.now (record { left = left.entry.now; right = right.now }) octave) file.old }
 {
     let output = octave_wave(sheet, left, right, octave, file);

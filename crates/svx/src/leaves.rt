@@ -6,10 +6,11 @@ ghost use Rattle.header.specs.Frequency.{cycle_frequency};
 ghost use Rattle.small_chunks.specs.Envelope.{envelope_points};
 ghost use Rattle.header_volume.specs.Volume.{volume_float};
 ghost use Rattle.samples.specs.Peak.{peak_of};
-ghost use Rattle.svx.specs.Answers.{crossing_number, crossing_place};
+ghost use Rattle.svx.specs.Answers.{refusal_number, handed};
 ghost use Rattle.svx.specs.Shapes.{frequency_of, weights_at, peak_shape};
 
-use voice::{Crossing, Frequency, Loudest, Pan, VoiceHeader, nearest_crossing, peak};
+use crate::hand::hand_length;
+use voice::{Pan, VoiceHeader, nearest_crossing, peak};
 
 // Where it isn't known, hertz is 0.
 #[repr(C)]
@@ -55,8 +56,8 @@ pub extern "C" fn svx_hi_cycle_frequency_hz(rate: u16, samples_per_cycle: u32) -
 {
     let h = header_with(rate, samples_per_cycle);
     match h.hi_cycle_frequency_hz() {
-        Frequency::Known(hertz) => SvxFrequency { known: true, hertz },
-        Frequency::Unknown => SvxFrequency {
+        Some(hertz) => SvxFrequency { known: true, hertz },
+        None => SvxFrequency {
             known: false,
             hertz: 0.0,
         },
@@ -87,15 +88,15 @@ pub extern "C" fn svx_peak(samples: &[i8]) -> SvxPeak
     ensures { result ≡ peak_shape (peak_of samples.now) }
 {
     match peak(samples) {
-        Loudest::Empty => SvxPeak {
+        None => SvxPeak {
             found: false,
             magnitude: 0,
             place: 0,
         },
-        Loudest::At(magnitude, place) => SvxPeak {
+        Some(loudest) => SvxPeak {
             found: true,
-            magnitude,
-            place: place as u64,
+            magnitude: loudest.magnitude,
+            place: loudest.place as u64,
         },
     }
 }
@@ -107,16 +108,11 @@ pub extern "C" fn svx_nearest_crossing(
     reach: u64,
     found: &mut u64,
 ) -> u32
-    ensures result { result ≡ crossing_number (nearest_crossing samples.now place reach) }
-    ensures found { found.new ≡ crossing_place (nearest_crossing samples.now place reach) found.old }
+    ensures result { result ≡ refusal_number (nearest_crossing samples.now place reach) }
+    ensures found { found.new ≡ handed (nearest_crossing samples.now place reach) found.old }
 {
-    match nearest_crossing(samples, place as usize, reach as usize) {
-        Crossing::Refused(number) => number as u32,
-        Crossing::Found(i) => {
-            *found = i as u64;
-            0
-        }
-    }
+    let crossing = nearest_crossing(samples, place as usize, reach as usize);
+    hand_length(crossing, found)
 }
 
 #[unsafe(no_mangle)]

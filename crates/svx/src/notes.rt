@@ -2,9 +2,12 @@
 ghost use Rattle.std.specs.Prelude.{◌≡◌};
 ghost use Rattle.note.specs.Fill.{after_fill};
 ghost use Rattle.note.specs.Note.{start_of, key_up_of};
-ghost use Rattle.svx.specs.Notes.{key_handed_in, note_of, shape_of, released_of, key_up_frame, refusal_of, sounding_of};
+ghost use Rattle.svx.specs.Notes.{key_handed_in, note_of, shape_of, released_of, key_up_frame, sounding_of};
+ghost use Rattle.svx.specs.Answers.{refusal_number};
 
-use voice::{Answer, Key, Note, Playing};
+use crate::hand::refusal_number;
+use refusal::Refusal;
+use voice::{Key, Note, Playing};
 
 // key_up is 0 while the note is held: of a note that is handed in held it is ignored, and it comes back as 0.
 #[repr(C)]
@@ -88,22 +91,10 @@ fn shape_of(n: Note) -> SvxNote
     }
 }
 
-fn refusal_of(answer: Answer) -> u32
-    ensures { result ≡ refusal_of answer }
-{
-    match answer {
-        Answer::Sounding(_) => 0,
-        Answer::Refused(number) => number as u32,
-    }
-}
-
-fn sounding_of(answer: Answer) -> u64
+fn sounding_of(answer: Result<usize, Refusal>) -> u64
     ensures { result ≡ sounding_of answer }
 {
-    match answer {
-        Answer::Sounding(count) => count as u64,
-        Answer::Refused(_) => 0,
-    }
+    answer.unwrap_or(0) as u64
 }
 
 #[unsafe(no_mangle)]
@@ -129,7 +120,7 @@ pub extern "C" fn svx_note_fill(
     right: &[i8],
     out: &mut [i16],
 ) -> SvxFilled
-    ensures refusal { result.refusal ≡ refusal_of (after_fill sheet.now (record { left = left.entry.now; right = right.now }) (note_of note) out.old).answer }
+    ensures refusal { result.refusal ≡ refusal_number (after_fill sheet.now (record { left = left.entry.now; right = right.now }) (note_of note) out.old).answer }
     ensures sounding { result.sounding ≡ sounding_of (after_fill sheet.now (record { left = left.entry.now; right = right.now }) (note_of note) out.old).answer }
     ensures note { result.note ≡ shape_of (after_fill sheet.now (record { left = left.entry.now; right = right.now }) (note_of note) out.old).note }
     ensures buffer { out.new ≡ (after_fill sheet.now (record { left = left.entry.now; right = right.now }) (note_of note) out.old).buffer }
@@ -139,7 +130,7 @@ pub extern "C" fn svx_note_fill(
     let answer = filled.answer;
     let after = filled.note;
     SvxFilled {
-        refusal: refusal_of(answer),
+        refusal: refusal_number(answer),
         sounding: sounding_of(answer),
         note: shape_of(after),
     }

@@ -6,7 +6,7 @@ ghost use Rattle.octaves.specs.Side.{side_part};
 ghost use Rattle.octaves.specs.declared.side.Side.TheVariants.{Left, Right};
 ghost use Rattle.svx.specs.Shapes.{part_shape, count_of, octave_header};
 
-use voice::{Part, SampleCount, Side, VoiceHeader, repeat_part, side_part};
+use voice::{Part, Side, VoiceHeader, repeat_part, side_part};
 
 // Where it isn't there, the rest is 0.
 #[repr(C)]
@@ -17,16 +17,16 @@ pub struct SvxPart {
     pub length: u64,
 }
 
-fn hand_part(part: Part) -> SvxPart
+fn hand_part(part: Option<Part>) -> SvxPart
     ensures { result ≡ part_shape part }
 {
     match part {
-        Part::At(start, n) => SvxPart {
+        Some(part) => SvxPart {
             there: true,
-            start: start as u64,
-            length: n as u64,
+            start: part.start as u64,
+            length: part.length as u64,
         },
-        Part::Absent => SvxPart {
+        None => SvxPart {
             there: false,
             start: 0,
             length: 0,
@@ -55,12 +55,12 @@ pub extern "C" fn svx_octave_samples(one_shot: u32, repeat: u32, octaves: u8, k:
 {
     let h = octave_header(one_shot, repeat, octaves);
     match h.octave_samples(k) {
-        SampleCount::Samples(n) => SvxPart {
+        Some(n) => SvxPart {
             there: true,
             start: 0,
             length: n,
         },
-        SampleCount::Absent => SvxPart {
+        None => SvxPart {
             there: false,
             start: 0,
             length: 0,

@@ -2,10 +2,11 @@
 ghost use Rattle.std.specs.Prelude.{◌≡◌};
 ghost use Rattle.sheet.specs.Judge.{judged};
 ghost use Rattle.sheet.specs.Record.{record_at};
-ghost use Rattle.svx.specs.Answers.{judged_number};
+ghost use Rattle.svx.specs.Answers.{refusal_number};
 ghost use Rattle.svx.specs.Shapes.{record_of};
 
-use voice::{Judged, RecordStep, judge_sheet, record_at};
+use crate::hand::refusal_number;
+use voice::{judge_sheet, record_at};
 
 // step: 0 a record, 1 the end, 2 refused by 15, 3 refused by 16. The rest is 0 unless step is 0.
 #[repr(C)]
@@ -33,28 +34,21 @@ pub extern "C" fn svx_sheet_record(sheet: &[u8], at: u64) -> SvxRecord
     ensures { result ≡ record_of (record_at sheet.now at) }
 {
     match record_at(sheet, at as usize) {
-        RecordStep::Record(kind, start, next) => SvxRecord {
+        Ok(Some(record)) => SvxRecord {
             step: 0,
-            kind,
-            start: start as u64,
-            next: next as u64,
+            kind: record.kind,
+            start: record.start as u64,
+            next: record.next as u64,
         },
-        RecordStep::End => no_record(1),
-        RecordStep::Refused(number) => {
-            if number == refusal::RECORD_CUT {
-                return no_record(2);
-            }
-            no_record(3)
-        }
+        Ok(None) => no_record(1),
+        Err(refusal) if refusal.number() == 15 => no_record(2),
+        Err(_) => no_record(3),
     }
 }
 
 #[unsafe(no_mangle)]
 pub extern "C" fn svx_sheet_judge(sheet: &[u8]) -> u32
-    ensures { result ≡ judged_number (judged sheet.now) }
+    ensures { result ≡ refusal_number (judged sheet.now) }
 {
-    match judge_sheet(sheet) {
-        Judged::Sound => 0,
-        Judged::Refused(number) => number as u32,
-    }
+    refusal_number(judge_sheet(sheet))
 }

@@ -1,19 +1,22 @@
 -- The laws of the places that the code finds: the first zero byte, the first and the last subsequence that is not white, and
 -- what the part between the two is.
 -- Assumes nothing.
-use Prim.Native.Nat.{ℕ, suc, ◌+◌, ◌-◌, ◌≤◌, ◌<◌}
-use borrow.Author.Tests.{ne_eqb}
-use lib.Dec.{eqb}
-use lib.ListN.{length, get_or, take, drop, drop_of_length-le, length-append, length-drop}
-use lib.Seq.{drop-cons, take-append_seam}
+use Prim.Native.Nat.{ℕ, suc, ◌+◌, ◌-◌, ◌≤◌}
+use borrow.Author.Tests.{ltb-false}
+use lib.Dec.{eqb, ltb}
+use lib.ListN.{length, take, drop, length-append, length-drop}
+use lib.Seq.{take-append_seam}
 use mathlib.Core.Bool.{Bool, true, false, cond, ◌&&◌}
 use mathlib.Core.List.{List, [], ◌∷◌}
 use mathlib.Core.Path.{◌≡◌, refl, sym, ap, ◌∙◌}
 use native.Mathlib.Nat.{add-zero, add-sub_cancel_left}
-use native.Mathlib.Numerals.{add-one}
 use native.Mathlib.Omega.{arith}
 use Rattle.laws.specs.Walk.{each}
 use Rattle.text.proofs.TrimLaws.{end_white, start_split, end_split}
+use Rattle.std.proofs.lemmas.List.Recursion.{is_position_or_len}
+use Rattle.std.specs.List.{position, position_or_len}
+use Rattle.std.specs.Option.{unwrap_or}
+use Rattle.std.specs.Prelude.{None, Some}
 use Rattle.text.specs.Place.{start_white, text_end}
 use Rattle.text.specs.Text.{before_zero, is_white, trim_start, is_empty, trim_end, trim}
 use Rattle.text_utf8.proofs.SpanLaws.{Spans, span_length}
@@ -22,20 +25,6 @@ use Rattle.text_utf8.specs.Step.{subsequences_from}
 use Rattle.text_utf8.specs.Utf8.{Subsequence, subsequences, bytes}
 
 -- ---- the first zero byte
-
-module _ (s : List ℕ) (i : ℕ) where
-  pub zero_end : length s ≤ i → i + length (before_zero (drop i s)) ≡ i
-  unfolding before_zero
-  zero_end h = rw (drop_of_length-le s h) (add-zero i)
-
-  module _ (h : i < length s) where
-    pub zero_here : get_or s i 0 ≡ 0 → i + length (before_zero (drop i s)) ≡ i
-    unfolding before_zero
-    zero_here e = rw (drop-cons s i 0 h, e) (add-zero i)
-
-    pub zero_later : (get_or s i 0 ≡ 0 → ⊥) → i + length (before_zero (drop i s)) ≡ (i + 1) + length (before_zero (drop (i + 1) s))
-    unfolding before_zero
-    zero_later e = rw (drop-cons s i 0 h, ne_eqb (get_or s i 0) 0 e, add-one) (omega arith)
 
 pub before_zero_part : (s : List ℕ) → take (length (before_zero s)) s ≡ before_zero s
 unfolding before_zero
@@ -54,6 +43,22 @@ before_zero_le (b ∷ l) = go (before_zero_le l) (eqb b 0)
     go : length (before_zero l) ≤ length l → (u : Bool) → length (cond u [] (b ∷ before_zero l)) ≤ suc (length l)
     go h true = omega arith
     go h false = omega arith
+
+first_zero_is : (s : List ℕ) → length (before_zero s) ≡ position_or_len (λ b. eqb b 0) s
+unfolding before_zero
+first_zero_is s = is_position_or_len (λ l. length (before_zero l)) (λ b. eqb b 0) refl (λ b l. go b l (eqb b 0)) s
+  where
+    go : (b : ℕ) (l : List ℕ) (u : Bool) → length (cond u [] (b ∷ before_zero l)) ≡ cond u 0 (1 + length (before_zero l))
+    go b l true = refl
+    go b l false = omega arith
+
+-- what the code finds: the place of the first zero byte, or the end where there is none
+pub first_zero_or_end : (s : List ℕ) → unwrap_or (position (λ b. eqb b 0) s) (length s) ≡ length (before_zero s)
+first_zero_or_end s = rw (← first_zero_is) (go (ltb (length (before_zero s)) (length s)) refl)
+  where
+    go : (u : Bool) → ltb (length (before_zero s)) (length s) ≡ u → unwrap_or (cond u (Some (length (before_zero s))) None) (length s) ≡ length (before_zero s)
+    go true e = refl
+    go false e = omega (arith, before_zero_le s, ltb-false _ _ e)
 
 -- ---- one subsequence, at the start and at the end
 

@@ -7,6 +7,7 @@
 
 mod length;
 mod part;
+mod replacement;
 mod white_space;
 mod write;
 

@@ -1,51 +1,25 @@
--- One byte fed, by the tests of the code; and a subsequence fed: after a complete row the state is that between two scalar values,
--- and after a row that is not complete, or a byte that begins none, no bytes make the whole well-formed.
+-- A subsequence fed: after a complete row the state is that between two scalar values, and after a row that is not complete, or a
+-- byte that begins none, no bytes make the whole well-formed.
 -- Assumes nothing.
-use Prim.Native.Nat.{ℕ, zero, suc, ◌-◌, ◌≤◌, ◌<◌}
-use borrow.Author.Tests.{le-leb, lt-leb, ne_eqb}
-use lib.Dec.{eqb}
+use Prim.Native.Nat.{ℕ, suc}
 use lib.ListN.{length}
-use mathlib.Core.Bool.{Bool, true, false, cond, and-false}
+use mathlib.Core.Bool.{Bool, true, false, cond}
 use mathlib.Core.List.{List, [], ◌∷◌, ◌++◌}
-use mathlib.Core.Option.{Option, none, some}
 use mathlib.Core.Path.{◌≡◌, refl, ap, ◌∙◌}
 use native.Mathlib.Omega.{arith}
 use Rattle.laws.specs.Walk.{each}
 use Rattle.text_utf8.proofs.FirstLaws.{IsFirst, no_row, part_row, full_row}
-use Rattle.text_utf8.proofs.MatchingLaws.{ranges_more}
 use Rattle.text_utf8.proofs.SubsequenceLaws.{Consistent}
-use Rattle.text_utf8.specs.Feed.{fed, complete, fed_all}
-use Rattle.text_utf8.specs.Lead.{ranges}
-use Rattle.text_utf8.specs.Table.{Range, within, following}
+use Rattle.text_utf8.specs.Feed.{complete, fed_all}
+use Rattle.text_utf8.specs.Table.{Range, within}
 use Rattle.text_utf8.specs.Utf8.{matching, Subsequence, bytes, all_well_formed}
+use Rattle.std.specs.Prelude.{None, Option, Some}
 
--- ---- the tests of the code
-
-module _ (n low high b : ℕ) where
-  pub fed_lead : n ≡ 0 → fed (some (ranges n low high)) b ≡ following b
-  fed_lead e = rw e
-
-  module _ (some_left : n ≡ 0 → ⊥) where
-    pub fed_low : b < low → fed (some (ranges n low high)) b ≡ none
-    fed_low h = rw (ranges_more n low high (omega arith), lt-leb low b h, and-false)
-
-    pub fed_high : high < b → fed (some (ranges n low high)) b ≡ none
-    fed_high h = rw (ranges_more n low high (omega arith), lt-leb b high h)
-
-    pub fed_more : low ≤ b → b ≤ high → fed (some (ranges n low high)) b ≡ some (ranges (n - 1) 0x80 0xBF)
-    fed_more h k = rw (ranges_more n low high (omega arith), le-leb b high k, le-leb low b h)
-
-pub complete_is : (n low high : ℕ) → eqb n 0 ≡ complete (some (ranges n low high))
-complete_is zero low high = refl
-complete_is (suc n) low high = ne_eqb (suc n) 0 (λ e. omega arith)
-
--- ---- a subsequence
-
-fed_never : (l : List ℕ) → complete (fed_all none l) ≡ false
+fed_never : (l : List ℕ) → complete (fed_all None l) ≡ false
 fed_never [] = refl
 fed_never (b ∷ l) = fed_never l
 
-fed_full_row : (rs : List Range) (t r : List ℕ) → matching rs (t ++ r) ≡ length t → length t ≡ length rs → fed_all (some rs) (t ++ r) ≡ fed_all (some []) r
+fed_full_row : (rs : List Range) (t r : List ℕ) → matching rs (t ++ r) ≡ length t → length t ≡ length rs → fed_all (Some rs) (t ++ r) ≡ fed_all (Some []) r
 unfolding matching
 fed_full_row [] [] r e d = refl
 fed_full_row [] (b ∷ t) r e d = absurd (omega arith)
@@ -53,36 +27,36 @@ fed_full_row (x ∷ rs) [] r e d = absurd (omega arith)
 fed_full_row (x ∷ rs) (b ∷ t) r e d = go (λ e. fed_full_row rs t r e (omega arith)) (within x b) e
   where
     go :
-        (matching rs (t ++ r) ≡ length t → fed_all (some rs) (t ++ r) ≡ fed_all (some []) r) → (u : Bool) →
-        cond u (suc (matching rs (t ++ r))) 0 ≡ suc (length t) → fed_all (cond u (some rs) none) (t ++ r) ≡ fed_all (some []) r
+        (matching rs (t ++ r) ≡ length t → fed_all (Some rs) (t ++ r) ≡ fed_all (Some []) r) → (u : Bool) →
+        cond u (suc (matching rs (t ++ r))) 0 ≡ suc (length t) → fed_all (cond u (Some rs) None) (t ++ r) ≡ fed_all (Some []) r
     go later true e = later (omega arith)
     go later false e = absurd (omega arith)
 
-fed_part_row : (rs : List Range) (t r : List ℕ) → matching rs (t ++ r) ≡ length t → (length t ≡ length rs → ⊥) → complete (fed_all (some rs) (t ++ r)) ≡ false
+fed_part_row : (rs : List Range) (t r : List ℕ) → matching rs (t ++ r) ≡ length t → (length t ≡ length rs → ⊥) → complete (fed_all (Some rs) (t ++ r)) ≡ false
 unfolding matching
 fed_part_row [] [] r e d = absurd (d refl)
 fed_part_row [] (b ∷ t) r e d = absurd (omega arith)
 fed_part_row (x ∷ rs) [] [] e d = refl
 fed_part_row (x ∷ rs) [] (b ∷ r) e d = go (within x b) e
   where
-    go : (u : Bool) → cond u (suc (matching rs r)) 0 ≡ 0 → complete (fed_all (cond u (some rs) none) r) ≡ false
+    go : (u : Bool) → cond u (suc (matching rs r)) 0 ≡ 0 → complete (fed_all (cond u (Some rs) None) r) ≡ false
     go true e = absurd (omega arith)
     go false e = fed_never r
 fed_part_row (x ∷ rs) (b ∷ t) r e d = go (λ e. fed_part_row rs t r e (λ q. d (ap suc q))) (within x b) e
   where
     go :
-        (matching rs (t ++ r) ≡ length t → complete (fed_all (some rs) (t ++ r)) ≡ false) → (u : Bool) →
-        cond u (suc (matching rs (t ++ r))) 0 ≡ suc (length t) → complete (fed_all (cond u (some rs) none) (t ++ r)) ≡ false
+        (matching rs (t ++ r) ≡ length t → complete (fed_all (Some rs) (t ++ r)) ≡ false) → (u : Bool) →
+        cond u (suc (matching rs (t ++ r))) 0 ≡ suc (length t) → complete (fed_all (cond u (Some rs) None) (t ++ r)) ≡ false
     go later true e = later (omega arith)
     go later false e = absurd (omega arith)
 
-pub fed_subsequences : (ps : List Subsequence) → Consistent ps → complete (fed_all (some []) (each bytes ps)) ≡ all_well_formed ps
+pub fed_subsequences : (ps : List Subsequence) → Consistent ps → complete (fed_all (Some []) (each bytes ps)) ≡ all_well_formed ps
 fed_subsequences [] h = refl
 fed_subsequences (p ∷ ps) h = go h.0 (fed_subsequences ps h.1)
   where
     go :
-        {p : Subsequence} → IsFirst p (each bytes ps) → complete (fed_all (some []) (each bytes ps)) ≡ all_well_formed ps →
-        complete (fed_all (some []) (bytes p ++ each bytes ps)) ≡ all_well_formed (p ∷ ps)
+        {p : Subsequence} → IsFirst p (each bytes ps) → complete (fed_all (Some []) (each bytes ps)) ≡ all_well_formed ps →
+        complete (fed_all (Some []) (bytes p ++ each bytes ps)) ≡ all_well_formed (p ∷ ps)
     go (no_row f) later = ap (λ (o : Option (List Range)). complete (fed_all o (each bytes ps))) f ∙ fed_never (each bytes ps)
     go (part_row {t = t} {rs = rs} f k d) later = ap (λ (o : Option (List Range)). complete (fed_all o (t ++ each bytes ps))) f ∙ fed_part_row rs t (each bytes ps) k d
     go (full_row {t = t} {rs = rs} f k d) later = ap (λ (o : Option (List Range)). complete (fed_all o (t ++ each bytes ps))) f ∙ ap complete (fed_full_row rs t (each bytes ps) k d) ∙ later

@@ -8,7 +8,6 @@ use lib.ListN.{length, take, drop, take-append-drop}
 use lib.Seq.{length-take-le}
 use mathlib.Core.Bool.{Bool, true, false, cond}
 use mathlib.Core.List.{List, [], ◌∷◌, ◌++◌}
-use mathlib.Core.Option.{Option, none, some}
 use mathlib.Core.Path.{◌≡◌, refl, sym, ◌∙◌}
 use native.Mathlib.Omega.{arith}
 use Rattle.laws.proofs.Cases.{impossible}
@@ -16,13 +15,14 @@ use Rattle.laws.specs.Walk.{more, last}
 use Rattle.text_utf8.proofs.MatchingLaws.{matching_le}
 use Rattle.text_utf8.specs.Table.{Range, following}
 use Rattle.text_utf8.specs.Utf8.{matching, Subsequence, scalar, ill_formed, from_lead, first_subsequence, bytes}
+use Rattle.std.specs.Prelude.{None, Option, Some}
 
 -- p is the first subsequence of its own bytes with r after them:
 -- no row begins with its one byte; or it ends before its row is complete; or its row is complete
 pub data IsFirst : Subsequence → List ℕ → Type 0 where
-  no_row : {b : ℕ} {r : List ℕ} → following b ≡ none → IsFirst (ill_formed (b ∷ [])) r
-  part_row : {b : ℕ} {t r : List ℕ} {rs : List Range} → following b ≡ some rs → matching rs (t ++ r) ≡ length t → (length t ≡ length rs → ⊥) → IsFirst (ill_formed (b ∷ t)) r
-  full_row : {b : ℕ} {t r : List ℕ} {rs : List Range} → following b ≡ some rs → matching rs (t ++ r) ≡ length t → length t ≡ length rs → IsFirst (scalar (b ∷ t)) r
+  no_row : {b : ℕ} {r : List ℕ} → following b ≡ None → IsFirst (ill_formed (b ∷ [])) r
+  part_row : {b : ℕ} {t r : List ℕ} {rs : List Range} → following b ≡ Some rs → matching rs (t ++ r) ≡ length t → (length t ≡ length rs → ⊥) → IsFirst (ill_formed (b ∷ t)) r
+  full_row : {b : ℕ} {t r : List ℕ} {rs : List Range} → following b ≡ Some rs → matching rs (t ++ r) ≡ length t → length t ≡ length rs → IsFirst (scalar (b ∷ t)) r
 
 -- p is the first suc n bytes of l
 pub record FirstOf (l : List ℕ) (p : Subsequence) (n : ℕ) : Type 0 where
@@ -36,11 +36,11 @@ first_of [] p n e = impossible cc
 first_of (b ∷ l) p n e = go (following b) refl e
   where
     go : (o : Option (List Range)) → following b ≡ o → from_lead b o l ≡ more p n → FirstOf (b ∷ l) p n
-    go none f e =
+    go None f e =
         let q : ill_formed (b ∷ []) ≡ p = cc in
         let k : 0 ≡ n = cc in
         rw (← q, ← k) (record { body = refl; fits = omega arith; is = no_row f })
-    go (some rs) f e = sort (eqb (matching rs l) (length rs)) refl e
+    go (Some rs) f e = sort (eqb (matching rs l) (length rs)) refl e
       where
         long : length (take (matching rs l) l) ≡ matching rs l
         long = length-take-le (matching rs l) l (matching_le rs l)
@@ -67,8 +67,8 @@ first_none [] ps e = refl
 first_none (b ∷ l) ps e = go (following b) e
   where
     go : (o : Option (List Range)) → from_lead b o l ≡ last ps → b ∷ l ≡ []
-    go none e = impossible cc
-    go (some rs) e = impossible cc
+    go None e = impossible cc
+    go (Some rs) e = impossible cc
 
 pub first_nil : first_subsequence [] ≡ last []
 unfolding first_subsequence

@@ -1,5 +1,4 @@
 -- Laws that this crate's proofs and those above cite; Theorems has what stands of every list of bytes, Examples some lists worked.
-pub mod RowLaws
 pub mod MatchingLaws
 pub mod StepLaws
 pub mod FirstLaws

@@ -1,13 +1,11 @@
 -- The laws of `matching`: how far it goes at a place of the bytes, where it stops, and one byte more.
 -- Assumes nothing.
 use Prim.Native.Nat.{ℕ, zero, suc, ◌+◌, ◌-◌, ◌≤◌, ◌<◌}
-use borrow.Author.Tests.{le-leb, lt-leb}
 use lib.ListN.{length, get_or, drop, drop_of_length-le}
 use lib.Seq.{drop-cons}
-use mathlib.Core.Bool.{Bool, true, false, cond, and-false}
+use mathlib.Core.Bool.{Bool, true, false, cond}
 use mathlib.Core.List.{List, [], ◌∷◌}
 use mathlib.Core.Path.{◌≡◌, refl, ap}
-use native.Mathlib.Nat.{add-zero}
 use native.Mathlib.Numerals.{add-one}
 use native.Mathlib.Omega.{arith}
 use Rattle.text_utf8.specs.Lead.{ranges}
@@ -39,23 +37,22 @@ matching_le (r ∷ rs) (b ∷ l) = go (matching_le rs l) (within r b)
 
 -- at a place i of the bytes s
 module _ (s : List ℕ) (i : ℕ) where
-  pub stop_end : (rs : List Range) → length s ≤ i → i + matching rs (drop i s) ≡ i
-  stop_end rs h = rw (drop_of_length-le s h, matching_nil rs, add-zero)
+  pub stop_end : (rs : List Range) → length s ≤ i → matching rs (drop i s) ≡ 0
+  stop_end rs h = rw (drop_of_length-le s h) (matching_nil rs)
 
-  pub stop_all : (n low high : ℕ) → n ≤ 0 → i + matching (ranges n low high) (drop i s) ≡ i
-  unfolding matching
-  stop_all zero low high h = add-zero i
-  stop_all (suc n) low high h = absurd (omega arith)
-
-  module _ (n low high : ℕ) (some : 0 < n) (h : i < length s) where
-    pub stop_low : get_or s i 0 < low → i + matching (ranges n low high) (drop i s) ≡ i
+  module _ (n low high : ℕ) where
+    pub stop_all : n ≡ 0 → matching (ranges n low high) (drop i s) ≡ 0
     unfolding matching
-    stop_low k = rw (ranges_more n low high some, drop-cons s i 0 h, lt-leb low (get_or s i 0) k, and-false) (add-zero i)
+    stop_all e = rw e
 
-    pub stop_high : high < get_or s i 0 → i + matching (ranges n low high) (drop i s) ≡ i
-    unfolding matching
-    stop_high k = rw (ranges_more n low high some, drop-cons s i 0 h, lt-leb (get_or s i 0) high k) (add-zero i)
+    module _ (some : n ≡ 0 → ⊥) (h : i < length s) where
+      pub stop_outside : within (to low high) (get_or s i 0) ≡ false → matching (ranges n low high) (drop i s) ≡ 0
+      unfolding matching
+      stop_outside e = rw (ranges_more n low high (omega arith), drop-cons s i 0 h, e)
 
-    pub one_more : low ≤ get_or s i 0 → get_or s i 0 ≤ high → i + matching (ranges n low high) (drop i s) ≡ (i + 1) + matching (ranges (n - 1) 0x80 0xBF) (drop (i + 1) s)
-    unfolding matching
-    one_more k k' = rw (add-one i, ranges_more n low high some, drop-cons s i 0 h, le-leb (get_or s i 0) high k', le-leb low (get_or s i 0) k) (omega arith)
+      pub one_more : within (to low high) (get_or s i 0) ≡ true → matching (ranges n low high) (drop i s) ≡ suc (matching (ranges (n - 1) 0x80 0xBF) (drop (i + 1) s))
+      unfolding matching
+      one_more e = rw (add-one i, ranges_more n low high (omega arith), drop-cons s i 0 h, e)
+
+-- all that the loop over the bytes uses
+pub ruleset matching_steps = (stop_end, stop_all, stop_outside, one_more)

@@ -6,7 +6,6 @@
 use Prim.Native.Nat.{ℕ}
 use mathlib.Core.Bool.{true, false}
 use mathlib.Core.List.{List, [], ◌∷◌, map}
-use mathlib.Core.Option.{some}
 use mathlib.Core.Path.{◌≡◌, refl, sym, ap, ◌∙◌}
 use Rattle.laws.proofs.Cases.{impossible}
 use Rattle.laws.specs.Walk.{each}
@@ -14,6 +13,7 @@ use Rattle.text_utf8.proofs.FedLaws.{fed_subsequences}
 use Rattle.text_utf8.proofs.SubsequenceLaws.{consistent, subsequences_bytes, lossy_subsequences}
 use Rattle.text_utf8.specs.Feed.{complete, fed_all}
 use Rattle.text_utf8.specs.Utf8.{Subsequence, scalar, ill_formed, subsequences, bytes, replaced, lossy, all_well_formed, well_formed}
+use Rattle.std.specs.Prelude.{Some}
 
 all_replaced : (ps : List Subsequence) → all_well_formed (map replaced ps) ≡ true
 all_replaced [] = refl
@@ -33,6 +33,6 @@ pub lossy_same : (l : List ℕ) → well_formed l ≡ true → lossy l ≡ l
 unfolding lossy well_formed
 lossy_same l h = replaced_same (subsequences l) h ∙ subsequences_bytes l
 
-pub fed_well : (l : List ℕ) → complete (fed_all (some []) l) ≡ well_formed l
+pub fed_well : (l : List ℕ) → complete (fed_all (Some []) l) ≡ well_formed l
 unfolding well_formed
-fed_well l = ap (λ (m : List ℕ). complete (fed_all (some []) m)) (sym (subsequences_bytes l)) ∙ fed_subsequences (subsequences l) (consistent l)
+fed_well l = ap (λ (m : List ℕ). complete (fed_all (Some []) m)) (sym (subsequences_bytes l)) ∙ fed_subsequences (subsequences l) (consistent l)

@@ -1,20 +1,19 @@
 -- Well-formedness one byte at a time. The state is the ranges of the bytes that have to follow, none where the bytes so far
 -- begin no well-formed text.
-use Rattle.std.specs.Prelude.{ℕ, Bool, true, false, cond, List, [], ◌∷◌}
-use Rattle.std.proofs.Math.Option.{Option, none, some}
+use Rattle.std.specs.Prelude.{ℕ, Bool, true, false, cond, List, [], ◌∷◌, None, Option, Some}
 use Rattle.text_utf8.specs.Table.{Range, within, following}
 
 -- the state after one byte more
 abbrev pub fed : Option (List Range) → ℕ → Option (List Range)
-fed none b = none
-fed (some []) b = following b
-fed (some (r ∷ rs)) b = cond (within r b) (some rs) none
+fed None b = None
+fed (Some []) b = following b
+fed (Some (r ∷ rs)) b = cond (within r b) (Some rs) None
 
 -- the bytes so far are well-formed: none has to follow
 abbrev pub complete : Option (List Range) → Bool
-complete none = false
-complete (some []) = true
-complete (some (r ∷ rs)) = false
+complete None = false
+complete (Some []) = true
+complete (Some (r ∷ rs)) = false
 
 -- the state after all of these bytes
 abbrev pub fed_all : Option (List Range) → List ℕ → Option (List Range)

@@ -1,6 +1,5 @@
 -- The Unicode Standard, table 3-7: Well-Formed UTF-8 Byte Sequences.
-use Rattle.std.specs.Prelude.{ℕ, leb, Bool, cond, ◌&&◌, List, [], ◌∷◌}
-use Rattle.std.proofs.Math.Option.{Option, none, some}
+use Rattle.std.specs.Prelude.{ℕ, leb, Bool, cond, ◌&&◌, List, [], ◌∷◌, None, Option, Some}
 
 -- a range of numbers, from the lowest to the highest, both included
 pub data Range : Type 0 where
@@ -34,8 +33,8 @@ table =
 
 -- what the first of these rows that has the byte as its first byte says of the bytes that follow
 abbrev pub pick : ℕ → List Row → Option (List Range)
-pick b [] = none
-pick b (row r rs ∷ rows) = cond (within r b) (some rs) (pick b rows)
+pick b [] = None
+pick b (row r rs ∷ rows) = cond (within r b) (Some rs) (pick b rows)
 
 -- the ranges of the bytes that have to follow a lead byte; none where no well-formed sequence begins with it
 unfoldable pub following : ℕ → Option (List Range)

@@ -1,7 +1,6 @@
 -- Bytes as subsequences: well-formed ones of one scalar value each, and maximal subparts of ill-formed ones.
 -- The Unicode Standard, section 3.9, D85a and D93b, and 'U+FFFD Substitution of Maximal Subparts'.
-use Rattle.std.specs.Prelude.{ℕ, suc, eqb, length, take, Bool, true, false, cond, List, [], ◌∷◌}
-use Rattle.std.proofs.Math.Option.{Option, none, some}
+use Rattle.std.specs.Prelude.{ℕ, suc, eqb, length, take, Bool, true, false, cond, List, [], ◌∷◌, None, Option, Some}
 use Rattle.laws.specs.Walk.{Front, more, last, walk, each}
 use Rattle.text_utf8.specs.Table.{Range, within, following}
 
@@ -19,8 +18,8 @@ pub data Subsequence : Type 0 where
 -- a first byte b with the ranges that it asks for: it and as many bytes of l as match, which is well-formed if all ranges are met.
 -- So an ill-formed one is the longest that begins a well-formed sequence, or one byte: a maximal subpart
 abbrev pub from_lead : ℕ → Option (List Range) → List ℕ → Front Subsequence
-from_lead b none l = more (ill_formed (b ∷ [])) 0
-from_lead b (some rs) l =
+from_lead b None l = more (ill_formed (b ∷ [])) 0
+from_lead b (Some rs) l =
     more
     (cond (eqb (matching rs l) (length rs)) (scalar (b ∷ take (matching rs l) l)) (ill_formed (b ∷ take (matching rs l) l)))
     (matching rs l)

@@ -7,5 +7,5 @@ mod step;
 mod table;
 
 pub use bytewise::{between, feed, is_between};
-pub use step::{Utf8Step, step_at, well_formed};
-pub use table::Lead;
+pub use step::{Utf8Part, step_at, well_formed};
+pub use table::Follow;

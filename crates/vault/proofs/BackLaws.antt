@@ -1,6 +1,6 @@
 -- Difference order and the way back undo each other, octave by octave.
 --     restored_order, ordered_restore     an octave
---     order_length, restored_length, by_length     as long as what came in
+--     order_length, restored_length       as long as what came in
 -- Assumes nothing.
 use mathlib.Core.Path.{◌≡◌, refl, ap, ap₂, ◌∙◌}
 use mathlib.Core.List.{List, [], ◌∷◌, ◌++◌}
@@ -10,16 +10,13 @@ use lib.IntN.{ℤ, ◌+ℤ◌, ◌-ℤ◌}
 use lib.ListN.{length, take, drop, length-append, length-take, length-drop, take-append-drop}
 use lib.Seq.{take_at, drop_at}
 use Rattle.laws.specs.Turns.{by_turns, evens, odds}
-use Rattle.laws.proofs.TurnLaws.{evens_length, odds_length, evens_back, odds_back, turns_back}
+use Rattle.laws.proofs.TurnLaws.{turns_length, evens_length, odds_length, evens_back, odds_back, turns_back}
 use Rattle.field.specs.Signed.{Samples}
 use Rattle.field.specs.Wrap.{to_sample}
 use Rattle.field.proofs.SignedLaws.{samples_take, samples_drop}
 use Rattle.field.proofs.WrapLaws.{sum_back, difference_back}
 use Rattle.vault.specs.DifferenceOrder.{less_before, differences, octave_order, added_to, sums, at_places, octave_restored}
-use Rattle.vault.specs.Helpers.{octave_by}
-use Rattle.vault.specs.declared.channel.Direction.{Direction}
-use Rattle.vault.specs.declared.channel.Direction.TheVariants.{Order, Restore}
-use Rattle.vault.proofs.OctaveLaws.{less_length, added_length, placed_length}
+use Rattle.vault.proofs.OctaveLaws.{less_length, added_length}
 
 -- ---- differences and sums
 
@@ -100,8 +97,6 @@ order_length l = omega (arith, length-append (evens (differences l)) (odds (diff
 
 pub restored_length : (l : List ℤ) → length (octave_restored l) ≡ length l
 unfolding octave_restored
-restored_length l = sums_length (at_places l) ∙ placed_length l ((length l + 1) / 2)
-
-pub by_length : (d : Direction) (l : List ℤ) → length (octave_by d l) ≡ length l
-by_length Order l = order_length l
-by_length Restore l = restored_length l
+restored_length l =
+    let half = (length l + 1) / 2 in
+    sums_length (at_places l) ∙ turns_length (take half l) (drop half l) ∙ omega (arith, length-take half l, length-drop half l)

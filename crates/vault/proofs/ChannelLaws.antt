@@ -24,13 +24,14 @@ use Rattle.octaves.specs.Part.{part_of}
 use Rattle.octaves.specs.declared.part.Part.{Part}
 use Rattle.octaves.proofs.PartLaws.{octave_whole, octave_at, part_samples}
 use Rattle.vault.specs.DifferenceOrder.{first_octaves, each_octave}
+use Rattle.std.specs.Prelude.{Option}
 
 -- ---- where the octaves lie
 
 -- where hi = 0 the channel is its only octave
 module _ (f : List ℤ → List ℤ) (h : VoiceHeader) (channel : List ℤ) (z : hi h ≡ 0) where
   pub sole_octave : octave_of h 0 channel ≡ channel
-  sole_octave = ap (λ (p : Part). part_of p channel) (octave_whole h (length channel) 0 z refl) ∙ take_all (length channel) channel (omega arith)
+  sole_octave = ap (λ (p : Option Part). part_of p channel) (octave_whole h (length channel) 0 z refl) ∙ take_all (length channel) channel (omega arith)
 
   pub sole_each : each_octave f h channel ≡ f channel
   unfolding first_octaves
@@ -70,7 +71,7 @@ module _ (h : VoiceHeader) (some : hi h ≡ 0 → ⊥) (channel : List ℤ) (all
 
     pub octave_is : octave_of h k channel ≡ take (places_before h k + hi h) (drop (places_before h k) channel)
     octave_is =
-        ap (λ (p : Part). part_of p channel) (octave_at h (length channel) k some l (omega (arith, octave_end h k l)))
+        ap (λ (p : Option Part). part_of p channel) (octave_at h (length channel) k some l (omega (arith, octave_end h k l)))
         ∙ ap (λ (n : ℕ). take n (drop (places_before h k) channel)) (sym (octave_long h k))
 
     pub octave_length : length (octave_of h k channel) ≡ places_before h k + hi h

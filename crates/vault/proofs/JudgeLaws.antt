@@ -1,5 +1,5 @@
 -- What the rules make of a channel: it is refused by the first that holds, or goes octave by octave through f.
---     by_refused, by_gives     by the number of the first rule that holds
+--     by_refused, by_gives     by the first rule that holds
 --     given_none, given_is     the other way, of a channel that was not refused
 --     none_suits               where no rule holds the length suits the header
 --     each_long, each_wise, each_undone     what then is put out
@@ -8,13 +8,12 @@ use Prim.Native.Nat.{ℕ, ◌≤◌}
 use mathlib.Core.Bool.{Bool, true, false}
 use mathlib.Core.List.{List, []}
 use mathlib.Core.Path.{◌≡◌, refl, sym, ap, ◌∙◌}
-use borrow.Author.Tests.{eqb-true, eqb-false, ne_eqb, ltb-true, ltb-false, not-false}
+use borrow.Author.Tests.{eqb-true, eqb-false, ltb-true, ltb-false, not-false}
 use lib.Dec.{eqb, ltb}
 use lib.IntN.{ℤ}
 use lib.ListN.{length}
-use Rattle.refusal.specs.Outcome.{gives, refuses}
 use Rattle.refusal.specs.Rules.{first_holding}
-use Rattle.refusal.proofs.RuleLaws.{none_holds, numbered_by, by_zero}
+use Rattle.refusal.proofs.RuleLaws.{none_holds, none_back}
 use Rattle.field.specs.Signed.{Samples}
 use Rattle.header.specs.Octaves.{hi, octaves}
 use Rattle.header.specs.declared.voice_header.VoiceHeader.{VoiceHeader}
@@ -25,27 +24,29 @@ use Rattle.octaves.specs.declared.part.Part.{Part}
 use Rattle.octaves.proofs.PartLaws.{octave_sole, octave_past}
 use Rattle.vault.specs.DifferenceOrder.{each_octave, channel_rules, by_octave}
 use Rattle.vault.proofs.ChannelLaws.{sole_octave, sole_each, suited_all, each_length, each_octave_lem, each_back}
+use Rattle.refusal.specs.declared.Refusal.{Refusal}
+use Rattle.std.specs.Prelude.{Err, Ok, Option}
 
 -- ---- by the rules
 
 module _ (f : List ℤ → List ℤ) (h : VoiceHeader) (channel : List ℤ) where
-  pub by_refused : (number : ℕ) → (number ≡ 0 → ⊥) → number ≡ first_holding (channel_rules h (length channel)) → by_octave f h channel ≡ refuses number
+  pub by_refused : (refusal : Refusal) → first_holding (channel_rules h (length channel)) ≡ Err refusal → by_octave f h channel ≡ Err refusal
   unfolding by_octave
-  by_refused number some e = rw (← e, ne_eqb number 0 some)
+  by_refused refusal e = rw e
 
-  pub by_gives : 0 ≡ first_holding (channel_rules h (length channel)) → by_octave f h channel ≡ gives (each_octave f h channel)
+  pub by_gives : first_holding (channel_rules h (length channel)) ≡ Ok tt → by_octave f h channel ≡ Ok (each_octave f h channel)
   unfolding by_octave
-  by_gives e = rw (← e)
+  by_gives e = rw e
 
-  pub given_none : (xs : List ℤ) → by_octave f h channel ≡ gives xs → first_holding (channel_rules h (length channel)) ≡ 0
+  pub given_none : (xs : List ℤ) → by_octave f h channel ≡ Ok xs → first_holding (channel_rules h (length channel)) ≡ Ok tt
   unfolding by_octave
-  given_none xs e = by_zero (first_holding (channel_rules h (length channel))) (each_octave f h channel) xs e
+  given_none xs e = none_back (first_holding (channel_rules h (length channel))) (each_octave f h channel) xs e
 
-  pub given_is : (xs : List ℤ) → by_octave f h channel ≡ gives xs → each_octave f h channel ≡ xs
-  given_is xs e = let same : gives (each_octave f h channel) ≡ gives xs = sym (by_gives (sym (given_none xs e))) ∙ e in cc
+  pub given_is : (xs : List ℤ) → by_octave f h channel ≡ Ok xs → each_octave f h channel ≡ xs
+  given_is xs e = let same : Ok (each_octave f h channel) ≡ Ok xs = sym (by_gives (given_none xs e)) ∙ e in cc
 
-pub none_suits : (h : VoiceHeader) (n : ℕ) → first_holding (channel_rules h n) ≡ 0 → lengths_suit h false n 0 ≡ true
-none_suits h n none = not-false (lengths_suit h false n 0) (none_holds (channel_rules h n) (numbered_by (channel_rules h n) tt) none).1.0
+pub none_suits : (h : VoiceHeader) (n : ℕ) → first_holding (channel_rules h n) ≡ Ok tt → lengths_suit h false n 0 ≡ true
+none_suits h n none = not-false (lengths_suit h false n 0) (none_holds (channel_rules h n) none).1.0
 
 -- ---- what is put out, by whether hi = 0
 
@@ -66,10 +67,10 @@ module _ (f : List ℤ → List ℤ) (same : (l : List ℤ) → length (f l) ≡
     absent p = p (each_octave f h channel) ∙ sym (ap f (p channel) ∙ none)
 
     sole : hi h ≡ 0 → (k ≡ 0 → ⊥) → (l : List ℤ) → octave_of h k l ≡ []
-    sole z e l = ap (λ (p : Part). part_of p l) (octave_sole h (length l) k z e)
+    sole z e l = ap (λ (p : Option Part). part_of p l) (octave_sole h (length l) k z e)
 
     past : (hi h ≡ 0 → ⊥) → octaves h ≤ k → (l : List ℤ) → octave_of h k l ≡ []
-    past some p l = ap (λ (p : Part). part_of p l) (octave_past h (length l) k some p)
+    past some p l = ap (λ (p : Option Part). part_of p l) (octave_past h (length l) k some p)
 
     where_zero : hi h ≡ 0 → octave_of h k (each_octave f h channel) ≡ f (octave_of h k channel)
     where_zero z = go (eqb k 0) refl

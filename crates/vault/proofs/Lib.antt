@@ -1,5 +1,4 @@
 -- Laws that this crate's proofs and those above cite.
-pub mod PartedLaws
 pub mod OctaveLaws
 pub mod BackLaws
 pub mod ChannelLaws

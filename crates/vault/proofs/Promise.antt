@@ -10,9 +10,8 @@ use Prim.Native.Nat.{ℕ, ◌-◌, ◌*◌, ◌^◌}
 use native.Mathlib.Nat.{zero-mul}
 use native.Mathlib.Omega.{arith}
 use Rattle.laws.specs.Turns.{evens, odds}
-use Rattle.refusal.specs.Outcome.{gives}
 use Rattle.refusal.specs.Rules.{first_holding}
-use Rattle.refusal.proofs.RuleLaws.{first_later, first_none, numbered_by, answered_by}
+use Rattle.refusal.proofs.RuleLaws.{first_later, first_none, answered_by}
 use Rattle.field.specs.Signed.{twos_complement, Samples}
 use Rattle.field.specs.Wrap.{residue, to_sample}
 use Rattle.header.specs.Octaves.{hi, octaves, total_samples}
@@ -24,28 +23,29 @@ use Rattle.vault.specs.Promise.{Promise}
 use Rattle.vault.proofs.BackLaws.{restored_order, ordered_restore, order_length, restored_length}
 use Rattle.vault.proofs.ChannelLaws.{sole_each}
 use Rattle.vault.proofs.JudgeLaws.{by_gives, given_none, given_is, none_suits, each_long, each_wise, each_undone}
+use Rattle.std.specs.Prelude.{Ok}
 
 -- ---- there and back
 
 -- what g undoes of f, a channel through f and then through g
 module _ (f g : List ℤ → List ℤ) (same : (l : List ℤ) → length (f l) ≡ length l) (undoes : (l : List ℤ) → Samples l → g (f l) ≡ l) (h : VoiceHeader) (channel out : List ℤ) (fits : Samples channel)
-    (e : by_octave f h channel ≡ gives out) where
-  none : first_holding (channel_rules h (length channel)) ≡ 0
+    (e : by_octave f h channel ≡ Ok out) where
+  none : first_holding (channel_rules h (length channel)) ≡ Ok tt
   none = given_none f h channel out e
 
   long : length out ≡ length channel
   long = sym (ap length (given_is f h channel out e)) ∙ each_long f same h channel (none_suits h (length channel) none)
 
-  back : by_octave g h out ≡ gives channel
+  back : by_octave g h out ≡ Ok channel
   back =
-      by_gives g h out (sym (ap (λ (n : ℕ). first_holding (channel_rules h n)) long ∙ none))
-      ∙ ap gives (ap (each_octave g h) (sym (given_is f h channel out e)) ∙ each_undone f same h channel (none_suits h (length channel) none) g undoes fits)
+      by_gives g h out (ap (λ (n : ℕ). first_holding (channel_rules h n)) long ∙ none)
+      ∙ ap Ok (ap (each_octave g h) (sym (given_is f h channel out e)) ∙ each_undone f same h channel (none_suits h (length channel) none) g undoes fits)
 
 octave_none : octave_order [] ≡ []
 unfolding octave_order differences evens odds
 octave_none = refl
 
-module _ (h : VoiceHeader) (samples values : List ℤ) (e : difference_order h samples ≡ gives values) where
+module _ (h : VoiceHeader) (samples values : List ℤ) (e : difference_order h samples ≡ Ok values) where
   as_long : length values ≡ length samples
   as_long = sym (ap length (given_is octave_order h samples values e)) ∙ each_long octave_order order_length h samples (none_suits h (length samples) (given_none octave_order h samples values e))
 
@@ -56,14 +56,14 @@ module _ (h : VoiceHeader) (samples values : List ℤ) (e : difference_order h s
 
 -- ---- hi = 0
 
-sole : (h : VoiceHeader) (samples : List ℤ) → hi h ≡ 0 → difference_order h samples ≡ gives (octave_order samples)
+sole : (h : VoiceHeader) (samples : List ℤ) → hi h ≡ 0 → difference_order h samples ≡ Ok (octave_order samples)
 unfolding total_samples lengths_suit
 sole h samples z =
     let total : total_samples h ≡ 0 = ap (λ (n : ℕ). n * (2 ^ octaves h - 1)) z ∙ zero-mul (2 ^ octaves h - 1) in
     let counted = first_later _ _ (lt-leb (2 ^ 64) (total_samples h) (omega arith)) in
     let suited : not (lengths_suit h false (length samples) 0) ≡ false = rw (eq-eqb (hi h) 0 z) in
     let suits = first_later _ _ suited in
-    by_gives octave_order h samples (sym (counted ∙ suits ∙ first_none)) ∙ ap gives (sole_each octave_order h samples z)
+    by_gives octave_order h samples (counted ∙ suits ∙ first_none) ∙ ap Ok (sole_each octave_order h samples z)
 
 -- ---- the promise
 
@@ -75,12 +75,12 @@ promise = record {
   apart = λ h a b values f g p q.
       let x = back octave_order octave_restored order_length restored_order h a values f p in
       let y = back octave_order octave_restored order_length restored_order h b values g q in
-      let same : gives a ≡ gives b = sym x ∙ y in cc;
+      let same : Ok a ≡ Ok b = sym x ∙ y in cc;
   as_long = as_long;
   octave_wise = λ h samples values k e. octave_wise h samples values e k;
   sole = sole;
   order = λ h f channel places. refl;
-  answered = λ h f channel places. answered_by (channel_rules h (length channel)) (numbered_by (channel_rules h (length channel)) tt) (each_octave f h channel) places;
+  answered = λ h f channel places. answered_by (channel_rules h (length channel)) (each_octave f h channel) places;
   none = refl;
   one = λ x. refl;
   wraps = refl;

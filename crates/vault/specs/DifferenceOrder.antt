@@ -1,14 +1,14 @@
 -- A channel in difference order: octave by octave, each sample as its difference to the one before, and the values at even places first.
 use Rattle.std.specs.Prelude.{ℕ, zero, suc, ◌+◌, ◌/◌, ◌^◌, false, not, List, [], ◌∷◌, ◌++◌, leb, ℤ, ◌+ℤ◌, ◌-ℤ◌, length, take, drop}
 use Rattle.laws.specs.Turns.{by_turns, evens, odds}
-use Rattle.refusal.specs.Numbers.{octave_total, sample_lengths}
-use Rattle.refusal.specs.Outcome.{Outcome}
 use Rattle.refusal.specs.Rules.{Rule, rule, first_holding, unless_refused}
 use Rattle.field.specs.Wrap.{to_sample}
 use Rattle.header.specs.Octaves.{octaves_there, total_samples}
 use Rattle.header.specs.declared.voice_header.VoiceHeader.{VoiceHeader}
 use Rattle.body_read.specs.Sides.{lengths_suit}
 use Rattle.octaves.specs.Octave.{octave_of}
+use Rattle.refusal.specs.declared.Refusal.TheVariants.{OctaveTotal, SampleLengths}
+use Rattle.refusal.specs.Outcome.{Outcome}
 
 -- ---- an octave
 
@@ -61,8 +61,8 @@ each_octave f h channel = first_octaves f h (octaves_there h) channel
 -- voice of one channel. 20, where the output doesn't fit, comes after them
 abbrev pub channel_rules : VoiceHeader → ℕ → List Rule
 channel_rules h n =
-    rule octave_total (leb (2 ^ 64) (total_samples h))
-    ∷ rule sample_lengths (not (lengths_suit h false n 0))
+    rule OctaveTotal (leb (2 ^ 64) (total_samples h))
+    ∷ rule SampleLengths (not (lengths_suit h false n 0))
     ∷ []
 
 -- a channel octave by octave through f, unless a rule turns it back

@@ -1,48 +1,25 @@
 // A whole channel, octave by octave.
-ghost use Rattle.std.specs.Prelude.{◌≡◌, true, false, ◌+◌, ◌^◌, ◌<◌, length};
+ghost use Rattle.std.specs.Prelude.{◌≡◌, true, false, ◌+◌, ◌^◌, ◌<◌, List, ℤ, length};
 ghost use Rattle.header.specs.Octaves.{hi};
 ghost use Rattle.body_read.specs.Sides.{lengths_suit};
 ghost use Rattle.refusal.specs.Outcome.{answer, buffer_after};
 ghost use Rattle.refusal.specs.Rules.{first_holding};
 ghost use Rattle.vault.specs.DifferenceOrder.{channel_rules, each_octave, by_octave, difference_order, difference_restore};
-ghost use Rattle.vault.specs.Helpers.{octave_by};
 
-use crate::octave::{order_octave, restore_octave};
+use crate::octave::{Conversion, Order, Restore};
 use body_read::is_suited;
-use header::{Total, VoiceHeader};
-use refusal::Output;
+use header::VoiceHeader;
+use refusal::Refusal;
 
-// Which way a channel goes.
-#[derive(Clone, Copy)]
-enum Direction {
-    Order,
-    Restore,
-}
-
-// The number of the first rule that turns a channel of n samples back, or 0.
-fn channel_refusal(h: VoiceHeader, n: usize) -> u8
+// The first rule that turns a channel of n samples back.
+fn channel_refusal(h: VoiceHeader, n: usize) -> Result<(), Refusal>
     ensures { result ≡ first_holding (channel_rules h n) }
 {
-    match h.total_samples_per_channel() {
-        Total::Refused(_) => refusal::OCTAVE_TOTAL,
-        Total::Sum(_) => {
-            if is_suited(h, false, n, 0) {
-                return 0;
-            }
-            refusal::SAMPLE_LENGTHS
-        }
+    h.total_samples_per_channel()?;
+    if is_suited(h, false, n, 0) {
+        return Ok(());
     }
-}
-
-// An octave the one way or the other.
-fn convert_octave(direction: Direction, octave: &[i8], out: &mut [i8])
-    requires { length out.old ≡ length octave.now }
-    ensures { out.new ≡ octave_by direction octave.now }
-{
-    match direction {
-        Direction::Order => order_octave(octave, out),
-        Direction::Restore => restore_octave(octave, out),
-    }
+    Err(Refusal::SampleLengths)
 }
 
 // Where the octave ends that begins at a place: it is longer than those before it together by the length of the highest.
@@ -55,52 +32,55 @@ fn octave_end(h: VoiceHeader, at: usize) -> usize
 }
 
 // All octaves of a channel that suits the header.
-fn convert_octaves(direction: Direction, h: VoiceHeader, channel: &[i8], out: &mut [i8])
+fn convert_octaves<C: Conversion>(h: VoiceHeader, channel: &[i8], out: &mut [i8])
     requires { (lengths_suit h false (length channel.now) 0 ≡ true) × (length out.old ≡ length channel.now) }
-    ensures { out.new ≡ each_octave (octave_by direction) h channel.now }
+    ensures { out.new ≡ each_octave C.converted h channel.now }
 {
     if h.hi_octave_samples() == 0 {
-        return convert_octave(direction, channel, out);
+        return C::convert(channel, out);
     }
     let n = channel.len();
     let mut at = 0;
+    // by places: each octave is longer than the one before, and the library cuts parts of one length only
     while at < n {
         let end = octave_end(h, at);
-        convert_octave(direction, &channel[at..end], &mut out[at..end]);
+        C::convert(&channel[at..end], &mut out[at..end]);
         at = end;
     }
 }
 
 // A channel the one way or the other. 13, 18, 20 in that order.
-fn convert_channel(direction: Direction, h: VoiceHeader, channel: &[i8], out: &mut [i8]) -> Output
-    ensures result { result ≡ answer (by_octave (octave_by direction) h channel.now) (length out.old) }
-    ensures buffer { out.new ≡ buffer_after (by_octave (octave_by direction) h channel.now) out.old }
+fn convert_channel<C: Conversion>(
+    h: VoiceHeader,
+    channel: &[i8],
+    out: &mut [i8],
+) -> Result<usize, Refusal>
+    requires { (octave : List ℤ) → length (C.converted octave) ≡ length octave }
+    ensures result { result ≡ answer (by_octave C.converted h channel.now) (length out.old) }
+    ensures buffer { out.new ≡ buffer_after (by_octave C.converted h channel.now) out.old }
 {
     let n = channel.len();
-    let number = channel_refusal(h, n);
-    if number != 0 {
-        return Output::Refused(number);
-    }
+    channel_refusal(h, n)?;
     if out.len() < n {
-        return Output::Refused(refusal::BUFFER_SHORT);
+        return Err(Refusal::BufferShort);
     }
-    convert_octaves(direction, h, channel, &mut out[..n]);
-    Output::Length(n)
+    convert_octaves::<C>(h, channel, &mut out[..n]);
+    Ok(n)
 }
 
 // A channel in difference order, octave by octave: the first sample as it is, then each less the one before, and of these values those at
 // even places before those at odd ones.
-pub fn difference_order(h: VoiceHeader, samples: &[i8], out: &mut [i8]) -> Output
+pub fn difference_order(h: VoiceHeader, samples: &[i8], out: &mut [i8]) -> Result<usize, Refusal>
     ensures result { result ≡ answer (difference_order h samples.now) (length out.old) }
     ensures buffer { out.new ≡ buffer_after (difference_order h samples.now) out.old }
 {
-    convert_channel(Direction::Order, h, samples, out)
+    convert_channel::<Order>(h, samples, out)
 }
 
 // The channel that these values are the difference order of.
-pub fn difference_restore(h: VoiceHeader, values: &[i8], out: &mut [i8]) -> Output
+pub fn difference_restore(h: VoiceHeader, values: &[i8], out: &mut [i8]) -> Result<usize, Refusal>
     ensures result { result ≡ answer (difference_restore h values.now) (length out.old) }
     ensures buffer { out.new ≡ buffer_after (difference_restore h values.now) out.old }
 {
-    convert_channel(Direction::Restore, h, values, out)
+    convert_channel::<Restore>(h, values, out)
 }

@@ -1,59 +1,58 @@
 // One octave, in one pass, two samples a turn.
-ghost use Rattle.std.specs.Prelude.{◌≡◌, length};
+ghost use Rattle.std.specs.Prelude.{◌≡◌, List, ℤ, length};
 ghost use Rattle.vault.specs.DifferenceOrder.{octave_order, octave_restored};
 
 use field::{sample_difference, sample_sum};
 
-// The octave in difference order. The value at an even place goes to the first part of `out`, the one after it to the second.
-pub(crate) fn order_octave(samples: &[i8], out: &mut [i8])
-    requires { length out.old ≡ length samples.now }
-    ensures { out.new ≡ octave_order samples.now }
-{
-    let n = samples.len();
-    let pairs = n / 2;
-    let half = n - pairs;
-    let mut before = 0;
-    let mut i = 0;
-    while i < pairs {
-        let even = i + i;
-        let odd = even + 1;
-        let at = half + i;
-        let first = samples[even];
-        let second = samples[odd];
-        out[i] = sample_difference(first, before);
-        out[at] = sample_difference(second, first);
-        before = second;
-        i += 1;
-    }
-    if pairs < half {
-        let last = n - 1;
-        out[pairs] = sample_difference(samples[last], before);
+// What is done to an octave: there, or back.
+pub(crate) trait Conversion {
+    ghost converted: { List ℤ → List ℤ };
+
+    fn convert(octave: &[i8], out: &mut [i8])
+        requires { length out.old ≡ length octave.now }
+        ensures { out.new ≡ converted octave.now };
+}
+
+// The octave in difference order.
+pub(crate) struct Order;
+
+impl Conversion for Order {
+    ghost converted = { octave_order };
+
+    // The value at an even place goes to the first part of `out`, the one after it to the second.
+    fn convert(samples: &[i8], out: &mut [i8]) {
+        let (pairs, rest) = samples.as_chunks::<2>();
+        let (evens, odds) = out.split_at_mut(samples.len().div_ceil(2));
+        let mut before = 0;
+        for (i, &[first, second]) in pairs.iter().enumerate() {
+            evens[i] = sample_difference(first, before);
+            odds[i] = sample_difference(second, first);
+            before = second;
+        }
+        if pairs.len() < evens.len() {
+            evens[pairs.len()] = sample_difference(rest[0], before);
+        }
     }
 }
 
 // The octave that these values are the difference order of.
-pub(crate) fn restore_octave(values: &[i8], out: &mut [i8])
-    requires { length out.old ≡ length values.now }
-    ensures { out.new ≡ octave_restored values.now }
-{
-    let n = values.len();
-    let pairs = n / 2;
-    let half = n - pairs;
-    let mut before = 0;
-    let mut i = 0;
-    while i < pairs {
-        let even = i + i;
-        let odd = even + 1;
-        let at = half + i;
-        let first = sample_sum(before, values[i]);
-        let second = sample_sum(first, values[at]);
-        out[even] = first;
-        out[odd] = second;
-        before = second;
-        i += 1;
-    }
-    if pairs < half {
-        let last = n - 1;
-        out[last] = sample_sum(before, values[pairs]);
+pub(crate) struct Restore;
+
+impl Conversion for Restore {
+    ghost converted = { octave_restored };
+
+    fn convert(values: &[i8], out: &mut [i8]) {
+        let (evens, odds) = values.split_at(values.len().div_ceil(2));
+        let mut before = 0;
+        for (i, &odd) in odds.iter().enumerate() {
+            let first = sample_sum(before, evens[i]);
+            let second = sample_sum(first, odd);
+            out[i + i] = first;
+            out[i + i + 1] = second;
+            before = second;
+        }
+        if odds.len() < evens.len() {
+            out[values.len() - 1] = sample_sum(before, evens[odds.len()]);
+        }
     }
 }

@@ -1,22 +1,20 @@
 -- What a reading makes of the answer and of the three lent buffers: all are written, or none is.
-use Rattle.std.specs.Prelude.{ℕ, Bool, cond, ◌&&◌, List, leb, ℤ, length}
+use Rattle.std.specs.Prelude.{ℕ, Bool, cond, ◌&&◌, List, leb, ℤ, length, Err, Ok}
 use Rattle.laws.specs.Buffer.{written}
-use Rattle.refusal.specs.Numbers.{buffer_short}
-use Rattle.refusal.specs.Outcome.{Outcome, gives, refuses}
 use Rattle.sheet.specs.Flat.{flat}
 use Rattle.voice_read.specs.ReadVoice.{Reading, read_voice}
 use Rattle.voice_read.specs.declared.chunks.Lengths.{Lengths}
-use Rattle.voice_read.specs.declared.chunks.Parsed.{Parsed}
-use Rattle.voice_read.specs.declared.chunks.Parsed.TheVariants.{Voice, Refused}
+use Rattle.refusal.specs.declared.Refusal.TheVariants.{BufferShort}
+use Rattle.refusal.specs.Outcome.{Outcome}
 
 -- the lengths of sheet, left and right
 abbrev pub lengths_of : Reading → Lengths
 lengths_of r = record { sheet = length (flat r.voice); left = length r.sides.left; right = length r.sides.right }
 
 -- the lengths that a reading needs
-abbrev pub needed_by : Outcome Reading → Parsed
-needed_by (gives r) = Voice (lengths_of r)
-needed_by (refuses number) = Refused number
+abbrev pub needed_by : Outcome Reading → Outcome Lengths
+needed_by (Ok r) = Ok (lengths_of r)
+needed_by (Err refusal) = Err refusal
 
 -- all three fit into so many places
 abbrev pub fits : Reading → ℕ → ℕ → ℕ → Bool
@@ -30,7 +28,7 @@ pub record Lent : Type 0 where
 
 -- what reading leaves: its answer, and what each buffer then holds
 pub record ReadResult : Type 0 where
-  pub parsed : Parsed
+  pub parsed : Outcome Lengths
   pub buffers : Lent
 
 -- the outputs at the fronts of the buffers, and past them what was there
@@ -39,11 +37,11 @@ written_to r b = record { sheet = written (flat r.voice) b.sheet; left = written
 
 -- the lengths and the outputs, or the refusal, or 20 where a buffer is too short; a refused reading leaves all three as they were
 abbrev pub reading_leaves : Outcome Reading → Lent → ReadResult
-reading_leaves (gives r) b =
+reading_leaves (Ok r) b =
     cond (fits r (length b.sheet) (length b.left) (length b.right))
-    (record { parsed = Voice (lengths_of r); buffers = written_to r b })
-    (record { parsed = Refused buffer_short; buffers = b })
-reading_leaves (refuses number) b = record { parsed = Refused number; buffers = b }
+    (record { parsed = Ok (lengths_of r); buffers = written_to r b })
+    (record { parsed = Err BufferShort; buffers = b })
+reading_leaves (Err refusal) b = record { parsed = Err refusal; buffers = b }
 
 -- what `parse_voice` leaves
 abbrev pub after_reading : List ℕ → Lent → ReadResult

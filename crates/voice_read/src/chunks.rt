@@ -5,7 +5,8 @@ ghost use Rattle.form.specs.FirstBad.{first_bad};
 ghost use Rattle.form.specs.Find.{first_of};
 ghost use Rattle.form.specs.Names.{body};
 ghost use Rattle.sheet_read.specs.FormVoice.{form_voice};
-ghost use Rattle.sheet_read.specs.ForCode.{is_some, Readable};
+ghost use Rattle.std.specs.Option.{is_some};
+ghost use Rattle.sheet_read.specs.ForCode.{Readable};
 ghost use Rattle.laws.specs.Buffer.{written};
 ghost use Rattle.sheet.specs.Flat.{flat};
 ghost use Rattle.sheet.specs.Read.{body_of};
@@ -17,8 +18,9 @@ ghost use Rattle.voice_read.specs.ReadVoice.{with_sides, read_items};
 
 use body_read::{SideLengths, decode_sides, side_lengths};
 use field::read32;
-use form::{Place, find, first_bad};
+use form::{find, first_bad};
 use header::{VoiceHeader, read_header};
+use refusal::Refusal;
 use sheet_read::{put_sheet, sheet_length};
 
 // How many bytes and samples a reading has.
@@ -29,20 +31,11 @@ pub struct Lengths {
     pub right: usize,
 }
 
-#[derive(Clone, Copy)]
-pub enum Parsed {
-    Voice(Lengths),
-    Refused(u8),
-}
-
 // That there is no chunk of a name.
 fn is_missing(form: &[u8], id: u32) -> bool
     ensures { result ≡ not (is_some (first_of id (items_from form.now 12))) }
 {
-    match find(form, id) {
-        Place::Absent => true,
-        Place::At(_, _) => false,
-    }
+    find(form, id).is_none()
 }
 
 // The header. Without a VHDR, which a caller has refused by then, it is all zeros.
@@ -51,8 +44,8 @@ fn header_of(form: &[u8]) -> VoiceHeader
     ensures { result ≡ (form_voice (items_from form.now 12)).header }
 {
     match find(form, form::VHDR) {
-        Place::At(start, _) => read_header(form, start),
-        Place::Absent => VoiceHeader {
+        Some(place) => read_header(form, place.start),
+        None => VoiceHeader {
             one_shot_hi_samples: 0,
             repeat_hi_samples: 0,
             samples_per_hi_cycle: 0,
@@ -66,58 +59,49 @@ fn header_of(form: &[u8]) -> VoiceHeader
 
 // That CHAN says two channels.
 fn is_stereo(form: &[u8]) -> bool
-    requires { first_bad (items_from form.now 12) ≡ 0 }
+    requires { first_bad (items_from form.now 12) ≡ Ok tt }
     ensures { result ≡ is_stereo (form_voice (items_from form.now 12)).channel }
 {
-    match find(form, form::CHAN) {
-        Place::Absent => false,
-        Place::At(start, _) => read32(form, start) == 6,
-    }
+    let Some(place) = find(form, form::CHAN) else {
+        return false;
+    };
+    read32(form, place.start) == 6
 }
 
 // BODY's bytes; none without a BODY.
 fn body_of<'a>(form: &'a [u8]) -> &'a [u8]
     ensures { result.now ≡ body_of (first_of body (items_from form.now 12)) }
 {
-    match find(form, form::BODY) {
-        Place::Absent => &form[..0],
-        Place::At(start, size) => {
-            let end = start + size;
-            &form[start..end]
-        }
-    }
+    let Some(place) = find(form, form::BODY) else {
+        return &form[..0];
+    };
+    let end = place.start + place.size;
+    &form[place.start..end]
 }
 
 // The lengths of a FORM with no bad chunk, a VHDR and a BODY; 10 to 14.
-fn body_lengths(form: &[u8]) -> Parsed
+fn body_lengths(form: &[u8]) -> Result<Lengths, Refusal>
     requires { Readable form.now }
     ensures { result ≡ needed_by (with_sides (form_voice (items_from form.now 12)) (body_of (first_of body (items_from form.now 12)))) }
 {
     let h = header_of(form);
     let stereo = is_stereo(form);
-    match side_lengths(h, stereo, body_of(form)) {
-        SideLengths::Refused(number) => Parsed::Refused(number),
-        SideLengths::Lengths(left, right) => {
-            let sheet = sheet_length(form);
-            Parsed::Voice(Lengths { sheet, left, right })
-        }
-    }
+    let SideLengths { left, right } = side_lengths(h, stereo, body_of(form))?;
+    let sheet = sheet_length(form);
+    Ok(Lengths { sheet, left, right })
 }
 
 // The lengths of a FORM; 4 to 7 for the first bad chunk, then 8 to 14.
-pub(crate) fn form_lengths(form: &[u8]) -> Parsed
+pub(crate) fn form_lengths(form: &[u8]) -> Result<Lengths, Refusal>
     requires { length form.now < 2 ^ 33 }
     ensures { result ≡ needed_by (read_items (items_from form.now 12)) }
 {
-    let bad = first_bad(form);
-    if bad != 0 {
-        return Parsed::Refused(bad);
-    }
+    first_bad(form)?;
     if is_missing(form, form::VHDR) {
-        return Parsed::Refused(refusal::NO_HEADER);
+        return Err(Refusal::NoHeader);
     }
     if is_missing(form, form::BODY) {
-        return Parsed::Refused(refusal::NO_BODY);
+        return Err(Refusal::NoBody);
     }
     body_lengths(form)
 }

@@ -4,5 +4,5 @@
 mod chunks;
 mod parse;
 
-pub use chunks::{Lengths, Parsed};
+pub use chunks::Lengths;
 pub use parse::{parse_voice, voice_lengths};

@@ -21,6 +21,7 @@ use Rattle.form.specs.Names.{form, form_type}
 use Rattle.voice_read.specs.ReadVoice.{read_items, form_of, head_refusal, read_voice}
 use Rattle.voice_write.specs.WriteVoice.{file_of}
 use Rattle.voice_round_trip.proofs.Items.{item_bytes, Chunks, end, next}
+use Rattle.std.specs.Prelude.{Ok}
 
 -- ---- a FORM around chunks
 
@@ -52,7 +53,7 @@ module _ (chunks : List ℕ) (small : length (held_of chunks) < 2 ^ 32) where
       let long : length (held_of chunks) ≡ 4 + length chunks = simp (length-append, bytes_length) in
       rw (end_file file (omega (arith, file_length))) (take-length file)
 
-  head_right : head_refusal file ≡ 0
+  head_right : head_refusal file ≡ Ok tt
   unfolding head_refusal file_of
   head_right =
       rw (

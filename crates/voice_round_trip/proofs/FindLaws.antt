@@ -5,7 +5,6 @@
 use Prim.Native.Nat.{ℕ}
 use mathlib.Core.Bool.{Bool, true, false, cond}
 use mathlib.Core.List.{List, [], ◌∷◌, ◌++◌, map, append-nil}
-use mathlib.Core.Option.{some}
 use mathlib.Core.Path.{◌≡◌, refl, ap, ◌∙◌}
 use native.Mathlib.Omega.{arith}
 use borrow.Author.Tests.{ne_eqb}
@@ -27,14 +26,15 @@ use Rattle.sheet_read.specs.FormVoice.{text_key, text_of, texts_of}
 use Rattle.sheet_write.specs.VoiceChunks.{text_name}
 use Rattle.voice_round_trip.proofs.Items.{named, channel_payload, text_item, voice_items}
 use Rattle.voice_round_trip.proofs.TextBack.{name_key, text_back}
+use Rattle.std.specs.Prelude.{Some}
 
 pub first_all : (id : ℕ) (items : List Item) → first_of id items ≡ first (all_of id items)
 unfolding first_of all_of
 first_all id [] = refl
-first_all id (bad number ∷ items) = refl
+first_all id (bad refusal ∷ items) = refl
 first_all id (chunk i b ∷ items) = go (eqb i id) (first_all id items)
   where
-    go : (t : Bool) → first_of id items ≡ first (all_of id items) → cond t (some b) (first_of id items) ≡ first (cond t (b ∷ all_of id items) (all_of id items))
+    go : (t : Bool) → first_of id items ≡ first (all_of id items) → cond t (Some b) (first_of id items) ≡ first (cond t (b ∷ all_of id items) (all_of id items))
     go true e = refl
     go false e = e
 

@@ -4,7 +4,6 @@
 -- Assumes nothing.
 use Prim.Native.Nat.{ℕ, ◌^◌, ◌≤◌, ◌<◌}
 use mathlib.Core.List.{List, [], ◌∷◌, ◌++◌, map, append_assoc, append-nil}
-use mathlib.Core.Option.{Option}
 use mathlib.Core.Path.{◌≡◌, refl}
 use native.Mathlib.Omega.{arith}
 use lib.Dec.{ltb, ltb→lt}
@@ -29,6 +28,7 @@ use Rattle.sheet_grammar.proofs.ListLaws.{each_append, each_map}
 use Rattle.sheet_grammar.proofs.FormLaws.{listed}
 use Rattle.sheet_grammar.proofs.VoiceLaws.{each_listed}
 use Rattle.sheet_write.specs.VoiceChunks.{text_name, text_chunk, voice_chunks}
+use Rattle.std.specs.Prelude.{Option}
 
 -- a chunk of one name for each value
 abbrev pub named : {A : Type 0} → ℕ → (A → List ℕ) → List A → List Item
@@ -67,7 +67,7 @@ voice_items v samples =
 
 abbrev pub item_bytes : Item → List ℕ
 item_bytes (chunk id b) = chunk_bytes id b
-item_bytes (bad number) = []
+item_bytes (bad refusal) = []
 
 module _ {A : Type 0} where
   named_bytes : (id : ℕ) (write : A → List ℕ) (values : List A) → each item_bytes (named id write values) ≡ each (λ a. chunk_bytes id (write a)) values

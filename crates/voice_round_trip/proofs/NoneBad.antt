@@ -23,6 +23,7 @@ use Rattle.sheet.specs.Voice.{Voice}
 use Rattle.sheet.specs.Allowed.{Allowed}
 use Rattle.voice_round_trip.proofs.Items.{channel_payload, voice_items}
 use Rattle.voice_round_trip.proofs.FirstBadLaws.{plain_right, channel_right, named_sound, listed_sound, texts_sound, nothing_bad}
+use Rattle.std.specs.Prelude.{Ok}
 
 -- parts of n bytes, joined
 each_unit : {A : Type 0} (n : ℕ) (write : A → List ℕ) → ((a : A) → length (write a) ≡ n) → (l : List A) → length (each write l) % n ≡ 0
@@ -31,17 +32,17 @@ each_unit n write size (a ∷ l) = rw (length-append, size a, add-mod_left n (le
 
 module _ {A : Type 0} (kind n : ℕ) (write : A → List ℕ) (size : (a : A) → length (write a) ≡ n) (no_channel : eqb kind 2 ≡ false) where
   -- a payload of n bytes
-  sized_right : get_or least kind 0 ≤ n → get_or unit kind 0 ≡ 1 → (a : A) → chunk_wrong false kind (write a) ≡ 0
+  sized_right : get_or least kind 0 ≤ n → get_or unit kind 0 ≡ 1 → (a : A) → chunk_wrong false kind (write a) ≡ Ok tt
   sized_right h e a = plain_right kind (write a) no_channel (omega (arith, size a)) (rw e (mod-one (length (write a))))
 
   -- parts of n bytes, any number of them
-  joined_right : get_or least kind 0 ≡ 0 → get_or unit kind 0 ≡ n → (l : List A) → chunk_wrong false kind (each write l) ≡ 0
+  joined_right : get_or least kind 0 ≡ 0 → get_or unit kind 0 ≡ n → (l : List A) → chunk_wrong false kind (each write l) ≡ Ok tt
   joined_right h e l = plain_right kind (each write l) no_channel (omega arith) (rw e (each_unit n write size l))
 
-body_right : (b : List ℕ) → chunk_wrong false 6 b ≡ 0
+body_right : (b : List ℕ) → chunk_wrong false 6 b ≡ Ok tt
 body_right b = plain_right 6 b refl (omega arith) (omega arith)
 
-pub items_sound : (v : Voice) (samples : List ℕ) → Allowed v → first_bad (voice_items v samples) ≡ 0
+pub items_sound : (v : Voice) (samples : List ℕ) → Allowed v → first_bad (voice_items v samples) ≡ Ok tt
 items_sound v samples a =
     let header_right = sized_right 1 20 header_bytes header_length refl (omega arith) refl in
     let pan_right = sized_right 3 4 pan_bytes pan_length refl (omega arith) refl in

@@ -5,7 +5,6 @@
 use Prim.Native.Nat.{ℕ, ◌≤◌, ◌<◌}
 use mathlib.Core.Bool.{true}
 use mathlib.Core.List.{List, [], ◌∷◌, ◌++◌, map, append-nil}
-use mathlib.Core.Option.{Option, none, some}
 use mathlib.Core.Path.{◌≡◌, refl, ap, ◌∙◌}
 use native.Mathlib.Omega.{arith}
 use lib.ListN.{length, length-append}
@@ -34,6 +33,7 @@ use Rattle.sheet_grammar.proofs.FieldForms.{header_body, pan_body, point_body, s
 use Rattle.sheet_read.specs.FormVoice.{chunk_channel, text_key, form_voice}
 use Rattle.voice_round_trip.proofs.Items.{channel_payload, channel_number, voice_items}
 use Rattle.voice_round_trip.proofs.FindLaws.{first_all, payloads, items_all, items_texts}
+use Rattle.std.specs.Prelude.{None, Option, Some}
 
 -- ---- parts of n bytes
 
@@ -56,12 +56,12 @@ segments_back l h = ap (map segment_of) (parts_back 8 (omega arith) segment_byte
 
 option_back : {A : Type 0} {F : A → Type 0} (write : A → List ℕ) (read : List ℕ → A) → ((a : A) → F a → read (write a) ≡ a)
     → (o : Option A) → IfThere F o → map_option read (first (map write (listed o))) ≡ o
-option_back write read back none h = refl
-option_back write read back (some a) h = ap some (back a h)
+option_back write read back None h = refl
+option_back write read back (Some a) h = ap Some (back a h)
 
 channel_in : (o : Option ChannelAssignment) → chunk_channel (first (map channel_payload (listed o))) ≡ o
-channel_in none = refl
-channel_in (some c) = rw (channel_number c, channel_back c)
+channel_in None = refl
+channel_in (Some c) = rw (channel_number c, channel_back c)
 
 -- ---- the voice
 
@@ -74,11 +74,11 @@ module _ (v : Voice) (samples : List ℕ) (a : Allowed v) where
   first_back : (id : ℕ) → text_key id ≡ 0 → (l : List (List ℕ)) → payloads v samples id ≡ l ++ [] → first_of id (voice_items v samples) ≡ first l
   first_back id e l p = first_all id (voice_items v samples) ∙ ap first (all_back id e l p)
 
-  pub header_there : first_of vhdr (voice_items v samples) ≡ some (header_bytes v.header)
+  pub header_there : first_of vhdr (voice_items v samples) ≡ Some (header_bytes v.header)
   unfolding text_key
   header_there = first_back vhdr refl (header_bytes v.header ∷ []) refl
 
-  pub body_there : first_of body (voice_items v samples) ≡ some samples
+  pub body_there : first_of body (voice_items v samples) ≡ Some samples
   unfolding text_key
   body_there = first_back body refl (samples ∷ []) refl
 

@@ -13,14 +13,11 @@ use lib.IntN.{ℤ}
 use lib.ListN.{length, drop_of_length-le}
 use Rattle.laws.proofs.Cases.{impossible}
 use Rattle.laws.specs.Walk.{each}
-use Rattle.refusal.specs.Numbers.{octave_total, sample_lengths, form_length}
-use Rattle.refusal.specs.Outcome.{gives, refuses}
 use Rattle.field.specs.Signed.{byte_of}
 use Rattle.header.specs.Compression.{known_compression}
 use Rattle.header.specs.Octaves.{hi, total_samples}
 use Rattle.header.specs.declared.compression.Compression.{Compression}
 use Rattle.header.specs.declared.compression.Compression.TheVariants.{None}
-use Rattle.header.specs.declared.compression.KnownCompression.TheVariants.{Known}
 use Rattle.header.specs.declared.voice_header.VoiceHeader.{VoiceHeader}
 use Rattle.sheet.specs.Voice.{Voice, is_stereo}
 use Rattle.body_read.specs.Sides.{Sides, lengths_suit}
@@ -28,6 +25,8 @@ use Rattle.body_write.specs.BodyBytes.{channel_bytes, body_bytes}
 use Rattle.voice_write.specs.WriteVoice.{contents, file_of, write_voice}
 use Rattle.voice_round_trip.proofs.Items.{voice_items, item_bytes, items_bytes}
 use Rattle.voice_round_trip.proofs.FileBack.{held_of}
+use Rattle.refusal.specs.declared.Refusal.TheVariants.{OctaveTotal, SampleLengths, FormLength}
+use Rattle.std.specs.Prelude.{Err, Ok}
 
 -- ---- what the writer accepts
 
@@ -37,7 +36,7 @@ pub record Accepts (v : Voice) (c : Compression) (s : Sides) (file : List ℕ) :
   pub small : length (contents v c s) < 2 ^ 32
   pub is : file ≡ file_of (contents v c s)
 
-pub accepts : (v : Voice) (c : Compression) (s : Sides) (file : List ℕ) → known_compression v.header.compression_byte ≡ Known c → write_voice v s ≡ gives file → Accepts v c s file
+pub accepts : (v : Voice) (c : Compression) (s : Sides) (file : List ℕ) → known_compression v.header.compression_byte ≡ Ok c → write_voice v s ≡ Ok file → Accepts v c s file
 unfolding write_voice
 accepts v c s file k e = go (ltb total' (2 ^ 64)) suit' (ltb (length held) (2 ^ 32)) refl refl refl (rw k at e)
   where
@@ -51,7 +50,7 @@ accepts v c s file k e = go (ltb total' (2 ^ 64)) suit' (ltb (length held) (2 ^ 
     held = contents v c s
 
     go : (x y z : Bool) → ltb total' (2 ^ 64) ≡ x → suit' ≡ y → ltb (length held) (2 ^ 32) ≡ z
-        → cond x (cond y (cond z (gives (file_of held)) (refuses form_length)) (refuses sample_lengths)) (refuses octave_total) ≡ gives file → Accepts v c s file
+        → cond x (cond y (cond z (Ok (file_of held)) (Err FormLength)) (Err SampleLengths)) (Err OctaveTotal) ≡ Ok file → Accepts v c s file
     go true true true p q r e = record { total = ltb-true total' (2 ^ 64) p; suit = q; small = ltb-true (length held) (2 ^ 32) r; is = cc }
     go true true false p q r e = impossible cc
     go true false z p q r e = impossible cc

@@ -26,12 +26,8 @@ use Rattle.form.specs.Names.{form, form_type, body}
 use Rattle.header.specs.Compression.{known_compression}
 use Rattle.header.specs.Octaves.{total_samples}
 use Rattle.header.specs.declared.compression.Compression.{Compression}
-use Rattle.header.specs.declared.compression.KnownCompression.{KnownCompression}
-use Rattle.header.specs.declared.compression.KnownCompression.TheVariants.{Known, Refused}
 use Rattle.laws.proofs.PutLaws.{put_then}
 use Rattle.laws.specs.Put.{Put}
-use Rattle.refusal.specs.Numbers.{octave_total, sample_lengths, form_length}
-use Rattle.refusal.specs.Outcome.{gives, refuses}
 use Rattle.sheet.specs.Flat.{flat}
 use Rattle.sheet.specs.Voice.{Voice, is_stereo}
 use Rattle.sheet_write.proofs.BoundLaws.{flat_bound}
@@ -39,6 +35,10 @@ use Rattle.sheet_write.specs.VoiceChunks.{voice_chunks}
 use Rattle.body_read.proofs.SideLaws.{suit_parts}
 use Rattle.body_read.specs.Sides.{Sides, lengths_suit}
 use Rattle.voice_write.specs.WriteVoice.{contents, file_of, held32, write_voice}
+use Rattle.refusal.specs.declared.Refusal.TheVariants.{OctaveTotal, SampleLengths, FormLength}
+use Rattle.refusal.specs.Outcome.{Outcome}
+use Rattle.refusal.specs.declared.Refusal.{Refusal}
+use Rattle.std.specs.Prelude.{Err, Ok}
 
 -- both sides
 abbrev pub sides_of : List ℤ → List ℤ → Sides
@@ -84,24 +84,24 @@ right_within v s suits = go (is_stereo v.channel) (suit_parts v.header (is_stere
 
 -- ---- by cases
 
-pub held_fits : (held : List ℕ) → length held < 2 ^ 32 → held32 held ≡ gives (file_of held)
+pub held_fits : (held : List ℕ) → length held < 2 ^ 32 → held32 held ≡ Ok (file_of held)
 held_fits held h = rw (lt-ltb (length held) (2 ^ 32) h)
 
-pub held_long : (held : List ℕ) → 2 ^ 32 ≤ length held → held32 held ≡ refuses form_length
+pub held_long : (held : List ℕ) → 2 ^ 32 ≤ length held → held32 held ≡ Err FormLength
 held_long held h = rw (le-ltb (length held) (2 ^ 32) h)
 
 module _ (v : Voice) (s : Sides) where
-  pub voice_unknown : (number : ℕ) → known_compression v.header.compression_byte ≡ Refused number → write_voice v s ≡ refuses number
+  pub voice_unknown : (refusal : Refusal) → known_compression v.header.compression_byte ≡ Err refusal → write_voice v s ≡ Err refusal
   unfolding write_voice
-  voice_unknown number e = rw e
+  voice_unknown refusal e = rw e
 
-  module _ (c : Compression) (e : known_compression v.header.compression_byte ≡ Known c) where
-    pub voice_octaves : 2 ^ 64 ≤ total_samples v.header → write_voice v s ≡ refuses octave_total
+  module _ (c : Compression) (e : known_compression v.header.compression_byte ≡ Ok c) where
+    pub voice_octaves : 2 ^ 64 ≤ total_samples v.header → write_voice v s ≡ Err OctaveTotal
     unfolding write_voice
     voice_octaves large = rw (e, le-ltb (total_samples v.header) (2 ^ 64) large)
 
     module _ (total : total_samples v.header < 2 ^ 64) where
-      pub voice_unsuited : suited v s ≡ false → write_voice v s ≡ refuses sample_lengths
+      pub voice_unsuited : suited v s ≡ false → write_voice v s ≡ Err SampleLengths
       unfolding write_voice
       voice_unsuited not = rw (e, lt-ltb (total_samples v.header) (2 ^ 64) total, not)
 
@@ -114,42 +114,42 @@ module _ (v : Voice) (s : Sides) where
 -- all that is asked of a voice with a file
 pub record Accepted (v : Voice) (s : Sides) (file : List ℕ) : Type 0 where
   pub compression : Compression
-  pub known : known_compression v.header.compression_byte ≡ Known compression
+  pub known : known_compression v.header.compression_byte ≡ Ok compression
   pub total : total_samples v.header < 2 ^ 64
   pub suits : suited v s ≡ true
   pub fits : length (contents v compression s) < 2 ^ 32
   pub is : file ≡ file_of (contents v compression s)
 
-module _ (v : Voice) (s : Sides) (file : List ℕ) (w : write_voice v s ≡ gives file) where
-  refused : (number : ℕ) → write_voice v s ≡ refuses number → Accepted v s file
-  refused number e = let z : ◌≡◌ {A = ℕ} 0 1 = cc in absurd (omega arith)
+module _ (v : Voice) (s : Sides) (file : List ℕ) (w : write_voice v s ≡ Ok file) where
+  refused : (refusal : Refusal) → write_voice v s ≡ Err refusal → Accepted v s file
+  refused refusal e = let z : ◌≡◌ {A = ℕ} 0 1 = cc in absurd (omega arith)
 
-  module _ (c : Compression) (k : known_compression v.header.compression_byte ≡ Known c) where
+  module _ (c : Compression) (k : known_compression v.header.compression_byte ≡ Ok c) where
     by_length : (t : total_samples v.header < 2 ^ 64) (u : suited v s ≡ true) (b : Bool) → ltb (length (contents v c s)) (2 ^ 32) ≡ b → Accepted v s file
     by_length t u true q =
         let fits = ltb-true (length (contents v c s)) (2 ^ 32) q in
-        let both : gives file ≡ gives (file_of (contents v c s)) = sym w ∙ voice_suited v s c k t u ∙ held_fits (contents v c s) fits in
+        let both : Ok file ≡ Ok (file_of (contents v c s)) = sym w ∙ voice_suited v s c k t u ∙ held_fits (contents v c s) fits in
         record { compression = c; known = k; total = t; suits = u; fits = fits; is = cc }
-    by_length t u false q = refused form_length (voice_suited v s c k t u ∙ held_long (contents v c s) (ltb-false (length (contents v c s)) (2 ^ 32) q))
+    by_length t u false q = refused FormLength (voice_suited v s c k t u ∙ held_long (contents v c s) (ltb-false (length (contents v c s)) (2 ^ 32) q))
 
     by_suit : total_samples v.header < 2 ^ 64 → (b : Bool) → suited v s ≡ b → Accepted v s file
     by_suit t true q = by_length t q (ltb (length (contents v c s)) (2 ^ 32)) refl
-    by_suit t false q = refused sample_lengths (voice_unsuited v s c k t q)
+    by_suit t false q = refused SampleLengths (voice_unsuited v s c k t q)
 
     by_total : (b : Bool) → ltb (total_samples v.header) (2 ^ 64) ≡ b → Accepted v s file
     by_total true q = by_suit (ltb-true (total_samples v.header) (2 ^ 64) q) (suited v s) refl
-    by_total false q = refused octave_total (voice_octaves v s c k (ltb-false (total_samples v.header) (2 ^ 64) q))
+    by_total false q = refused OctaveTotal (voice_octaves v s c k (ltb-false (total_samples v.header) (2 ^ 64) q))
 
-  by_byte : (k : KnownCompression) → known_compression v.header.compression_byte ≡ k → Accepted v s file
-  by_byte (Known c) q = by_total c q (ltb (total_samples v.header) (2 ^ 64)) refl
-  by_byte (Refused number) q = refused number (voice_unknown v s number q)
+  by_byte : (k : Outcome Compression) → known_compression v.header.compression_byte ≡ k → Accepted v s file
+  by_byte (Ok c) q = by_total c q (ltb (total_samples v.header) (2 ^ 64)) refl
+  by_byte (Err refusal) q = refused refusal (voice_unknown v s refusal q)
 
   pub accepted : Accepted v s file
   accepted = by_byte (known_compression v.header.compression_byte) refl
 
 -- by the compression that the header names
-pub accepted_as : (v : Voice) (s : Sides) (file : List ℕ) (c : Compression) → known_compression v.header.compression_byte ≡ Known c → (a : Accepted v s file) → a.compression ≡ c
-accepted_as v s file c k a = let e : Known a.compression ≡ Known c = sym a.known ∙ k in cc
+pub accepted_as : (v : Voice) (s : Sides) (file : List ℕ) (c : Compression) → known_compression v.header.compression_byte ≡ Ok c → (a : Accepted v s file) → a.compression ≡ c
+accepted_as v s file c k a = let e : Ok a.compression ≡ Ok c = sym a.known ∙ k in cc
 
 -- ---- stored part by part
 

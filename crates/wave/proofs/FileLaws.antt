@@ -10,19 +10,18 @@ use Rattle.chunk.specs.ChunkBytes.{pad}
 use Rattle.laws.proofs.PutLaws.{put_then}
 use Rattle.laws.specs.Put.{Put}
 use Rattle.refusal.proofs.OutcomeLaws.{room_gives}
-use Rattle.refusal.specs.Outcome.{gives}
 use Rattle.refusal.specs.Room.{Room}
 use Rattle.body_read.specs.Sides.{Sides}
 use Rattle.sheet.proofs.SoundLaws.{if_sound_lem, gives_sound}
 use Rattle.sheet.specs.Judge.{judged}
 use Rattle.sheet.specs.Read.{read_sheet}
 use Rattle.sheet.specs.Voice.{Voice}
-use Rattle.sheet.specs.declared.judge.Judged.TheVariants.{Sound}
 use Rattle.wave.proofs.RiffLaws.{held_chunk, file_parts}
 use Rattle.wave.proofs.WaveLaws.{stereo, lefts, rights, octaves_same, contents_are, held_length, accepted}
 use Rattle.wave.specs.Helpers.{held_for, front_bytes}
 use Rattle.wave.specs.Riff.{riff}
 use Rattle.wave.specs.Wave.{values_of, channels_of, octave_contents, octave_file, octave_wave, octave_wave_of}
+use Rattle.std.specs.Prelude.{Ok}
 
 -- how many bytes the values of octave k have
 abbrev pub value_count : Voice → Sides → ℕ → ℕ
@@ -30,13 +29,13 @@ value_count v s k = channels_of (stereo v s k) * length (lefts v s k)
 
 -- what a writer of n bytes into so many places counts on
 pub record Writes (sheet : List ℕ) (s : Sides) (k n places : ℕ) : Type 0 where
-  pub sound : judged sheet ≡ Sound
+  pub sound : judged sheet ≡ Ok tt
   pub same : stereo (read_sheet sheet) s k ≡ true → length (lefts (read_sheet sheet) s k) ≡ length (rights (read_sheet sheet) s k)
   pub long : n ≡ length (octave_file (read_sheet sheet) s k)
   pub held : n ≡ held_for (value_count (read_sheet sheet) s k) + 8
   pub fits : held_for (value_count (read_sheet sheet) s k) ≤ 4294967295
   pub room : n ≤ places
-  pub is : octave_wave_of sheet s k ≡ gives (octave_file (read_sheet sheet) s k)
+  pub is : octave_wave_of sheet s k ≡ Ok (octave_file (read_sheet sheet) s k)
 
 pub writes : (sheet : List ℕ) (s : Sides) (k n places : ℕ) → Room (octave_wave_of sheet s k) n places → Writes sheet s k n places
 writes sheet s k n places r =
@@ -52,7 +51,7 @@ writes sheet s k n places r =
       held = g.0.long ∙ ap length a.is ∙ held_chunk riff (octave_contents v s k) (value_count v s k) long;
       fits = rw long at a.fits;
       room = g.1;
-      is = g.0.is ∙ ap gives a.is;
+      is = g.0.is ∙ ap Ok a.is;
     }
 
 -- ---- stored part by part

@@ -6,10 +6,8 @@ use mathlib.Core.List.{List, [], ◌∷◌, ◌++◌}
 use mathlib.Core.Path.{◌≡◌, refl, sym, ◌∙◌}
 use lib.IntN.{negsuc}
 use lib.ListN.{length}
-use Rattle.refusal.proofs.RuleLaws.{numbered_by, answered_by}
-use Rattle.refusal.specs.Numbers.{compression, octave_total, sample_lengths, no_octave, voice_rate, form_length, buffer_short}
-use Rattle.refusal.specs.Outcome.{gives, answer}
-use Rattle.refusal.specs.Rules.{first_holding, with_buffer, answer_by, numbers_of}
+use Rattle.refusal.proofs.RuleLaws.{answered_by}
+use Rattle.refusal.specs.Rules.{first_holding, with_buffer, unless_refused, numbers_of}
 use Rattle.field.specs.BigEndian.{Bytes, big_endian_bytes}
 use Rattle.field.specs.LittleEndian.{little_endian_bytes}
 use Rattle.field.specs.Signed.{Samples}
@@ -25,9 +23,11 @@ use Rattle.wave.specs.Promise.{one_sample_file, Promise}
 use Rattle.wave.specs.ReadBack.{ReadBack}
 use Rattle.wave.specs.Riff.{riff, riff_head, riff_chunk, format_bytes, wave_contents}
 use Rattle.wave.specs.Wave.{value_of, values_of, octave_contents, octave_file, length_rules, wave_rules, octave_wave, octave_wave_of}
+use Rattle.refusal.specs.Outcome.{answer}
+use Rattle.std.specs.Prelude.{Ok}
 
 sheets_back : (sheet : List ℕ) (s : Sides) (k : ℕ) (file : List ℕ) → Bytes sheet → Samples s.left → Samples s.right
-    → octave_wave_of sheet s k ≡ gives file → ReadBack (read_sheet sheet) s k file
+    → octave_wave_of sheet s k ≡ Ok file → ReadBack (read_sheet sheet) s k file
 sheets_back sheet s k file bytes ls rs w =
     let v = read_sheet sheet in
     let sound = gives_sound sheet (octave_wave v s k) file w in
@@ -46,14 +46,14 @@ one_sample_lem = refl
 -- ---- the rules
 
 order : (v : Voice) (s : Sides) (k places : ℕ)
-    → numbers_of (with_buffer (wave_rules v s k) (octave_file v s k) places) ≡ compression ∷ octave_total ∷ sample_lengths ∷ no_octave ∷ voice_rate ∷ form_length ∷ buffer_short ∷ []
+    → numbers_of (with_buffer (wave_rules v s k) (octave_file v s k) places) ≡ 10 ∷ 13 ∷ 18 ∷ 31 ∷ 41 ∷ 19 ∷ 20 ∷ []
 order v s k places = rw (rules_are v s k) refl
 
 answered : (v : Voice) (s : Sides) (k places : ℕ)
-    → answer (octave_wave v s k) places ≡ answer_by (first_holding (with_buffer (wave_rules v s k) (octave_file v s k) places)) (length (octave_file v s k))
+    → answer (octave_wave v s k) places ≡ unless_refused (first_holding (with_buffer (wave_rules v s k) (octave_file v s k) places)) (length (octave_file v s k))
 answered v s k places =
     let rules = before19 v s k ++ length_rules (octave_contents v s k) in
-    rw (wave_is v s k, rules_are v s k) (answered_by rules (numbered_by rules tt) (octave_file v s k) places)
+    rw (wave_is v s k, rules_are v s k) (answered_by rules (octave_file v s k) places)
 
 pub promise : Promise
 promise = record {

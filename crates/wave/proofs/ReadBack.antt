@@ -11,7 +11,6 @@ use lib.ListN.{length, drop, length-map}
 use lib.Seq.{take_at, drop_at, drop-drop}
 use Rattle.laws.proofs.TurnLaws.{evens_back, odds_back}
 use Rattle.laws.specs.Turns.{by_turns}
-use Rattle.refusal.specs.Outcome.{gives}
 use Rattle.chunk.specs.ChunkBytes.{pad}
 use Rattle.field.proofs.BigEndianLaws.{bytes_length}
 use Rattle.field.specs.BigEndian.{big_endian_bytes}
@@ -34,6 +33,7 @@ use Rattle.wave.specs.Helpers.{held_for}
 use Rattle.wave.specs.ReadBack.{riff_length, channels_in, rate_in, after_format, payload_of, side_values, sample_from, ReadBack}
 use Rattle.wave.specs.Riff.{riff, wave_type, fmt, data_name, riff_head, riff_chunk, format_bytes, wave_contents}
 use Rattle.wave.specs.Wave.{value_of, values_of, channels_of, octave_wave}
+use Rattle.std.specs.Prelude.{Ok}
 
 -- ---- a file by its parts
 
@@ -132,7 +132,7 @@ few_channels false = omega arith
 
 -- a header's rate has 16 bits
 pub reads_back : (v : Voice) (s : Sides) (k : ℕ) (file : List ℕ) → Fitting v.header → Samples s.left → Samples s.right
-    → octave_wave v s k ≡ gives file → ReadBack v s k file
+    → octave_wave v s k ≡ Ok file → ReadBack v s k file
 reads_back v s k file fitting lefts_fit rights_fit w =
     let a = accepted v s k file w in
     let two = stereo v s k in

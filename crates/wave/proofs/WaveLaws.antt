@@ -11,15 +11,12 @@ use Prim.Native.Nat.{ℕ, ◌*◌, ◌≤◌}
 use mathlib.Core.Bool.{Bool, true, false}
 use mathlib.Core.List.{List, ◌++◌}
 use mathlib.Core.Path.{◌≡◌, refl, sym, ap, ◌∙◌}
-use borrow.Author.Tests.{ltb-false, eqb-true, ne_eqb, not-false}
+use borrow.Author.Tests.{ltb-false, eqb-true, not-false}
 use lib.Dec.{ltb}
 use lib.IntN.{ℤ}
 use lib.ListN.{length}
-use Rattle.refusal.proofs.RuleLaws.{Numbered, numbered_by, first_stands, first_join, first_here, first_later, first_none, none_holds, none_parts, by_zero}
-use Rattle.refusal.specs.Numbers.{form_length}
-use Rattle.refusal.specs.Outcome.{gives, refuses, length_of}
+use Rattle.refusal.proofs.RuleLaws.{first_stands, first_join, first_here, first_later, first_none, none_holds, none_parts, none_back}
 use Rattle.refusal.specs.Rules.{Rule, first_holding, NoneHolds, unless_refused}
-use Rattle.refusal.specs.declared.Output.TheVariants.{Length}
 use Rattle.header.specs.declared.voice_header.VoiceHeader.{VoiceHeader}
 use Rattle.body_read.proofs.SideLaws.{suit_parts}
 use Rattle.body_read.specs.Sides.{Sides, lengths_suit}
@@ -32,6 +29,10 @@ use Rattle.wave.proofs.ValueLaws.{values_length}
 use Rattle.wave.specs.Helpers.{held_for, length_for}
 use Rattle.wave.specs.Riff.{riff, wave_contents}
 use Rattle.wave.specs.Wave.{values_of, channels_of, octave_contents, octave_file, source_rules, length_rules, wave_rules, octave_wave}
+use Rattle.refusal.specs.declared.Refusal.TheVariants.{FormLength}
+use Rattle.refusal.specs.Outcome.{Outcome, length_of}
+use Rattle.refusal.specs.declared.Refusal.{Refusal}
+use Rattle.std.specs.Prelude.{Err, Ok, ⊤}
 
 module _ (v : Voice) (s : Sides) (k : ℕ) where
   abbrev h : VoiceHeader
@@ -83,32 +84,28 @@ module _ (v : Voice) (s : Sides) (k : ℕ) where
   unfolding octave_wave
   wave_is = rw rules_are
 
-  before19_numbered : Numbered before19
-  before19_numbered = numbered_by before19 tt
+  by_rules : (verdict : Outcome ⊤) → first_holding (before19 ++ length_rules (octave_contents v s k)) ≡ verdict → octave_wave v s k ≡ unless_refused verdict (octave_file v s k)
+  by_rules verdict e = wave_is ∙ rw e
 
-  by_rules : (number : ℕ) → first_holding (before19 ++ length_rules (octave_contents v s k)) ≡ number → octave_wave v s k ≡ unless_refused number (octave_file v s k)
-  by_rules number e = wave_is ∙ rw e
-
-  pub wave_refused : (number : ℕ) → (number ≡ 0 → ⊥) → number ≡ first_holding before19 → octave_wave v s k ≡ refuses number
-  wave_refused number some e =
-      by_rules number (first_stands before19 (length_rules (octave_contents v s k)) (λ none. some (e ∙ none)) ∙ sym e) ∙ rw (ne_eqb number 0 some)
+  pub wave_refused : (refusal : Refusal) → first_holding before19 ≡ Err refusal → octave_wave v s k ≡ Err refusal
+  wave_refused refusal e = by_rules (Err refusal) (first_stands before19 (length_rules (octave_contents v s k)) refusal e)
 
   -- none of them holds
-  module _ (none : first_holding before19 ≡ 0) where
+  module _ (none : first_holding before19 ≡ Ok tt) where
     passed : NoneHolds (voice_rules v (length s.left) (length s.right)) × NoneHolds (source_rules h k)
-    passed = none_parts (voice_rules v (length s.left) (length s.right)) (source_rules h k) (none_holds before19 before19_numbered none)
+    passed = none_parts (voice_rules v (length s.left) (length s.right)) (source_rules h k) (none_holds before19 none)
 
     pub suited : suits ≡ true
     suited = not-false suits passed.0.1.1.0
 
     left19 : first_holding (before19 ++ length_rules (octave_contents v s k)) ≡ first_holding (length_rules (octave_contents v s k))
-    left19 = first_join before19 (length_rules (octave_contents v s k)) before19_numbered none
+    left19 = first_join before19 (length_rules (octave_contents v s k)) none
 
-    long : ltb 4294967295 (length (octave_contents v s k)) ≡ true → octave_wave v s k ≡ refuses form_length
-    long e = by_rules form_length (left19 ∙ first_here _ _ e)
+    long : ltb 4294967295 (length (octave_contents v s k)) ≡ true → octave_wave v s k ≡ Err FormLength
+    long e = by_rules (Err FormLength) (left19 ∙ first_here _ _ e)
 
-    short : ltb 4294967295 (length (octave_contents v s k)) ≡ false → octave_wave v s k ≡ gives (octave_file v s k)
-    short e = by_rules 0 (left19 ∙ first_later _ _ e ∙ first_none)
+    short : ltb 4294967295 (length (octave_contents v s k)) ≡ false → octave_wave v s k ≡ Ok (octave_file v s k)
+    short e = by_rules (Ok tt) (left19 ∙ first_later _ _ e ∙ first_none)
 
     pub wave_length : length_of (octave_wave v s k) ≡ length_for (channels_of stereo * length lefts)
     wave_length = go (ltb 4294967295 (length (octave_contents v s k))) refl
@@ -119,7 +116,7 @@ module _ (v : Voice) (s : Sides) (k : ℕ) where
             ap length_of (long e) ∙ rw past
         go false e =
             let within : ltb 4294967295 (held_for (channels_of stereo * length lefts)) ≡ false = rw (held_length suited) at e in
-            ap length_of (short e) ∙ rw within (ap Length (held_chunk riff (octave_contents v s k) (channels_of stereo * length lefts) (held_length suited)))
+            ap length_of (short e) ∙ rw within (ap Ok (held_chunk riff (octave_contents v s k) (channels_of stereo * length lefts) (held_length suited)))
 
 -- ---- the other way
 
@@ -129,16 +126,16 @@ pub record Accepted (v : Voice) (s : Sides) (k : ℕ) (file : List ℕ) : Type 0
   pub fits : length (octave_contents v s k) ≤ 4294967295
   pub is : file ≡ octave_file v s k
 
-pub accepted : (v : Voice) (s : Sides) (k : ℕ) (file : List ℕ) → octave_wave v s k ≡ gives file → Accepted v s k file
+pub accepted : (v : Voice) (s : Sides) (k : ℕ) (file : List ℕ) → octave_wave v s k ≡ Ok file → Accepted v s k file
 accepted v s k file w =
     let contents = octave_contents v s k in
     let rules = before19 v s k ++ length_rules contents in
     let given = sym (wave_is v s k) ∙ w in
-    let none : first_holding rules ≡ 0 = by_zero (first_holding rules) (octave_file v s k) file given in
-    let parts = none_parts (before19 v s k) (length_rules contents) (none_holds rules (numbered_by rules tt) none) in
+    let none : first_holding rules ≡ Ok tt = none_back (first_holding rules) (octave_file v s k) file given in
+    let parts = none_parts (before19 v s k) (length_rules contents) (none_holds rules none) in
     let voice = none_parts (voice_rules v (length s.left) (length s.right)) (source_rules v.header k) parts.0 in
     record {
       suits = not-false (lengths_suit v.header (is_stereo v.channel) (length s.left) (length s.right)) voice.0.1.1.0;
       fits = ltb-false 4294967295 (length contents) parts.1.0;
-      is = let e : gives file ≡ gives (octave_file v s k) = sym given ∙ rw none in cc;
+      is = let e : Ok file ≡ Ok (octave_file v s k) = sym given ∙ rw none in cc;
     }

@@ -1,8 +1,6 @@
 -- What is promised of an octave's WAVE file. It is proved as `promise`.
-use Rattle.std.specs.Prelude.{ℕ, false, List, [], ◌∷◌, ◌≡◌, negsuc, length}
-use Rattle.refusal.specs.Numbers.{compression, octave_total, sample_lengths, no_octave, voice_rate, form_length, buffer_short}
-use Rattle.refusal.specs.Outcome.{gives, answer}
-use Rattle.refusal.specs.Rules.{first_holding, with_buffer, answer_by, numbers_of}
+use Rattle.std.specs.Prelude.{ℕ, false, List, [], ◌∷◌, ◌≡◌, negsuc, length, Ok}
+use Rattle.refusal.specs.Rules.{first_holding, with_buffer, unless_refused, numbers_of}
 use Rattle.field.specs.BigEndian.{Bytes}
 use Rattle.field.specs.Signed.{Samples}
 use Rattle.header.specs.Header.{Fitting}
@@ -12,6 +10,7 @@ use Rattle.sheet.specs.Voice.{Voice}
 use Rattle.wave.specs.ReadBack.{ReadBack}
 use Rattle.wave.specs.Riff.{riff, riff_chunk, wave_contents}
 use Rattle.wave.specs.Wave.{value_of, values_of, octave_file, wave_rules, octave_wave, octave_wave_of}
+use Rattle.refusal.specs.Outcome.{answer}
 
 -- one sample, -2, at 8,000 Hz: 46 bytes, the value 126 at 44, and its pad
 abbrev pub one_sample_file : List ℕ
@@ -24,17 +23,17 @@ one_sample_file =
 pub record Promise : Type 0 where
   -- the file of a voice whose fields fit, with sides of samples, taken apart by its own lengths gives the octave of each side
   pub voices_back : (v : Voice) (s : Sides) (k : ℕ) (file : List ℕ) → Fitting v.header → Samples s.left → Samples s.right
-      → octave_wave v s k ≡ gives file → ReadBack v s k file
+      → octave_wave v s k ≡ Ok file → ReadBack v s k file
   -- the same of sheets, which are what the entries take
   pub sheets_back : (sheet : List ℕ) (s : Sides) (k : ℕ) (file : List ℕ) → Bytes sheet → Samples s.left → Samples s.right
-      → octave_wave_of sheet s k ≡ gives file → ReadBack (read_sheet sheet) s k file
+      → octave_wave_of sheet s k ≡ Ok file → ReadBack (read_sheet sheet) s k file
   -- -2 becomes 126; `negsuc 1` is -2
   pub minus_two : value_of (negsuc 1) ≡ 126
   -- one sample as a whole file
   pub one_sample_lem : riff_chunk riff (wave_contents 1 8000 (values_of false (negsuc 1 ∷ []) [])) ≡ one_sample_file
   -- for a sound sheet the order is 10, 13, 18, 31, 41, 19, 20
   pub order : (v : Voice) (s : Sides) (k places : ℕ)
-      → numbers_of (with_buffer (wave_rules v s k) (octave_file v s k) places) ≡ compression ∷ octave_total ∷ sample_lengths ∷ no_octave ∷ voice_rate ∷ form_length ∷ buffer_short ∷ []
+      → numbers_of (with_buffer (wave_rules v s k) (octave_file v s k) places) ≡ 10 ∷ 13 ∷ 18 ∷ 31 ∷ 41 ∷ 19 ∷ 20 ∷ []
   -- and the first of these rules that holds is the answer, or the file's length where none does
   pub answered : (v : Voice) (s : Sides) (k places : ℕ)
-      → answer (octave_wave v s k) places ≡ answer_by (first_holding (with_buffer (wave_rules v s k) (octave_file v s k) places)) (length (octave_file v s k))
+      → answer (octave_wave v s k) places ≡ unless_refused (first_holding (with_buffer (wave_rules v s k) (octave_file v s k) places)) (length (octave_file v s k))

@@ -1,8 +1,6 @@
 -- An octave of a voice as a WAVE file: octave_wave, and octave_wave_of for a sheet.
-use Rattle.std.specs.Prelude.{ℕ, Bool, cond, not, List, [], ◌∷◌, ◌++◌, map, eqb, ltb, ℤ, pos, nat_abs, ◌+ℤ◌, length}
+use Rattle.std.specs.Prelude.{ℕ, Bool, cond, not, List, [], ◌∷◌, ◌++◌, map, eqb, ltb, ℤ, pos, nat_abs, ◌+ℤ◌, length, Err}
 use Rattle.laws.specs.Turns.{by_turns}
-use Rattle.refusal.specs.Numbers.{no_octave, voice_rate, form_length}
-use Rattle.refusal.specs.Outcome.{Outcome, refuses}
 use Rattle.refusal.specs.Rules.{Rule, rule, first_holding, unless_refused}
 use Rattle.header.specs.Octaves.{octave_there}
 use Rattle.header.specs.declared.voice_header.VoiceHeader.{VoiceHeader}
@@ -13,6 +11,8 @@ use Rattle.sheet.specs.Voice.{Voice, is_stereo}
 use Rattle.octaves.specs.Octave.{octave_of}
 use Rattle.voice_rules.specs.Rules.{voice_rules}
 use Rattle.wave.specs.Riff.{riff, riff_chunk, wave_contents}
+use Rattle.refusal.specs.declared.Refusal.TheVariants.{NoOctave, VoiceRate, FormLength}
+use Rattle.refusal.specs.Outcome.{Outcome}
 
 -- ---- the values
 
@@ -45,13 +45,13 @@ octave_file v s k = riff_chunk riff (octave_contents v s k)
 -- 31 and 41: there is no octave k, or the voice has no rate
 abbrev pub source_rules : VoiceHeader → ℕ → List Rule
 source_rules h k =
-    rule no_octave (not (octave_there h k))
-    ∷ rule voice_rate (eqb h.samples_per_sec 0)
+    rule NoOctave (not (octave_there h k))
+    ∷ rule VoiceRate (eqb h.samples_per_sec 0)
     ∷ []
 
 -- 19, of what the RIFF holds: a length past 32 bits
 abbrev pub length_rules : List ℕ → List Rule
-length_rules contents = rule form_length (ltb 4294967295 (length contents)) ∷ []
+length_rules contents = rule FormLength (ltb 4294967295 (length contents)) ∷ []
 
 -- what turns octave k back, in the order in which it is judged: the voice's own rules (10, 13, 18), 31, 41, 19. 15 to 17 come before
 -- them, and 20, where a buffer is lent, after them
@@ -64,4 +64,4 @@ octave_wave v s k = unless_refused (first_holding (wave_rules v s k)) (octave_fi
 
 -- the same of a sheet and its samples
 abbrev pub octave_wave_of : List ℕ → Sides → ℕ → Outcome (List ℕ)
-octave_wave_of sheet s k = if_sound (judged sheet) refuses (octave_wave (read_sheet sheet) s k)
+octave_wave_of sheet s k = if_sound (judged sheet) Err (octave_wave (read_sheet sheet) s k)

@@ -18,10 +18,8 @@ fn write_one(samples: &[i8], out: &mut [u8])
     requires { length samples.now ≤ length out.old }
     ensures { out.new ≡ written (map value_of samples.now) out.old }
 {
-    let mut i = 0;
-    while i < samples.len() {
-        out[i] = value_of(samples[i]);
-        i += 1;
+    for (i, &s) in samples.iter().enumerate() {
+        out[i] = value_of(s);
     }
 }
 
@@ -30,13 +28,9 @@ fn write_two(left: &[i8], right: &[i8], out: &mut [u8])
     requires { (length left.now ≡ length right.now) × (length left.now + length left.now ≤ length out.old) }
     ensures { out.new ≡ written (by_turns (map value_of left.now) (map value_of right.now)) out.old }
 {
-    let mut i = 0;
-    while i < left.len() {
-        let l = i + i;
-        let r = i + i + 1;
-        out[l] = value_of(left[i]);
-        out[r] = value_of(right[i]);
-        i += 1;
+    for (i, &s) in left.iter().enumerate() {
+        out[i + i] = value_of(s);
+        out[i + i + 1] = value_of(right[i]);
     }
 }
 

@@ -9,7 +9,7 @@ use crate::measure::{octave_wave_length, values_length};
 use crate::values::put_values;
 use chunk::put_pad;
 use octaves::octave;
-use refusal::Output;
+use refusal::Refusal;
 use sheet_layout::{sheet_header, sheet_stereo};
 
 // As many as fmt says.
@@ -45,18 +45,20 @@ fn write_wave(sheet: &[u8], left: &[i8], right: &[i8], k: u8, n: usize, file: &m
 }
 
 // An octave as WAVE, and the file's length; 15 to 17, 10, 13, 18, 31, 41, 19, then 20 where it doesn't fit.
-pub fn octave_wave(sheet: &[u8], left: &[i8], right: &[i8], octave: u8, file: &mut [u8]) -> Output
+pub fn octave_wave(
+    sheet: &[u8],
+    left: &[i8],
+    right: &[i8],
+    octave: u8,
+    file: &mut [u8],
+) -> Result<usize, Refusal>
     ensures result { result ≡ answer (octave_wave_of sheet.now (record { left = left.entry.now; right = right.now }) octave) (length file.old) }
     ensures buffer { file.new ≡ buffer_after (octave_wave_of sheet.now (record { left = left.entry.now; right = right.now }) octave) file.old }
 {
-    match octave_wave_length(sheet, left, right, octave) {
-        Output::Refused(number) => Output::Refused(number),
-        Output::Length(n) => {
-            if file.len() < n {
-                return Output::Refused(refusal::BUFFER_SHORT);
-            }
-            write_wave(sheet, left, right, octave, n, file);
-            Output::Length(n)
-        }
+    let n = octave_wave_length(sheet, left, right, octave)?;
+    if file.len() < n {
+        return Err(Refusal::BufferShort);
     }
+    write_wave(sheet, left, right, octave, n, file);
+    Ok(n)
 }

@@ -1,7 +1,7 @@
 -- `body_decode::copy_fibonacci` meets its contract: `prev` is the next sample, where there is one.
 use mathlib.Core.Path.{◌≡◌}
 use mathlib.Core.List.{◌++◌}
-use Prim.Native.Nat.{◌-◌, ◌≤◌, ◌<◌}
+use Prim.Native.Nat.{◌<◌}
 use lib.IntN.{pos}
 use lib.ListN.{length, take, drop, get_or}
 use Rattle.fibonacci.specs.Decode.{fib_samples}
@@ -10,8 +10,5 @@ use Rattle.body_decode.proofs.copy_fibonacci.Given as goal
 
 abbrev pub invariant-loop-i : goal.invariant-loop-i
 invariant-loop-i l =
-    (l.i ≤ l.n) × (length l.out ≡ length l.initial.out) × (l.out ≡ take l.i (frame_bytes l.n (fib_samples l.body)) ++ drop l.i l.initial.out)
+    (l.out ≡ take l.i (frame_bytes l.n (fib_samples l.body)) ++ drop l.i l.initial.out)
     × (l.i < length (fib_samples l.body) → l.prev ≡ get_or (fib_samples l.body) l.i (pos 0))
-
-abbrev pub decreases-loop-i : goal.decreases-loop-i
-decreases-loop-i l = l.n - l.i

@@ -2,7 +2,7 @@
 use mathlib.Core.Path.{sym, ◌∙◌}
 use Prim.Native.Nat.{◌+◌}
 use native.Mathlib.Omega.{arith}
-use lib.ListN.{take, length-set}
+use lib.ListN.{take}
 use lib.Seq.{get_or-take, length-take-le}
 use Rattle.laws.proofs.Prefix.{prefix_whole}
 use Rattle.laws.specs.Turns.{by_turns}
@@ -14,16 +14,13 @@ loop-i-preserved c =
     let l = c.loop-i in
     let a = c.args in
     let ls = take a.n a.left.now in
-    let rs = take a.n a.right.now in (
-      omega arith,
-      simp length-set l.invariant.1,
-      turn_stored ls rs a.out.now l.out l.i 0 _ _
-          (rw (length-take-le a.n a.left.now (omega arith)) (omega arith))
-          (rw (length-take-le a.n a.right.now (omega arith)) (omega arith))
-          (omega arith) l.invariant.2
-          (sym (get_or-take a.n a.left.now l.i 0 (omega arith)))
-          (sym (get_or-take a.n a.right.now l.i 0 (omega arith))),
-    )
+    let rs = take a.n a.right.now in
+    turn_stored ls rs a.out.now l.out l.i 0 _ _
+    (rw (length-take-le a.n a.left.now (omega arith)) (omega arith))
+    (rw (length-take-le a.n a.right.now (omega arith)) (omega arith))
+    (omega arith) l.invariant
+    (sym (get_or-take a.n a.left.now l.i 0 (omega arith)))
+    (sym (get_or-take a.n a.right.now l.i 0 (omega arith)))
 
 pub returns : goal.returns
 returns c =
@@ -32,4 +29,4 @@ returns c =
     let ls = take a.n a.left.now in
     let rs = take a.n a.right.now in
     let long = by_turns_length ls rs a.n (length-take-le a.n a.left.now (omega arith)) (length-take-le a.n a.right.now (omega arith)) in
-    l.invariant.2 ∙ prefix_whole (by_turns ls rs) a.out.now (l.i + l.i) (omega (arith, long))
+    l.invariant ∙ prefix_whole (by_turns ls rs) a.out.now (l.i + l.i) (omega (arith, long))

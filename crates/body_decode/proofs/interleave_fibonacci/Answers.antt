@@ -2,7 +2,6 @@
 use mathlib.Core.Path.{refl, sym, ap, ◌∙◌}
 use Prim.Native.Nat.{◌+◌}
 use native.Mathlib.Omega.{arith}
-use lib.ListN.{length-set}
 use mir.Syntax.{w8}
 use Rattle.laws.proofs.Prefix.{prefix_whole}
 use Rattle.laws.proofs.Signed.{back}
@@ -19,7 +18,7 @@ pub loop-i-init : goal.loop-i-init
 loop-i-init c =
     let left_first = back w8 c.sample_of_byte-a.type_inv ∙ c.sample_of_byte-a.ensures in
     let right_first = back w8 c.sample_of_byte-b.type_inv ∙ c.sample_of_byte-b.ensures in
-    (omega arith, refl, refl, (λ _. left_first ∙ sym (sample_first c.args.left.now)), (λ _. right_first ∙ sym (sample_first c.args.right.now)))
+    (refl, (λ _. left_first ∙ sym (sample_first c.args.left.now)), (λ _. right_first ∙ sym (sample_first c.args.right.now)))
 
 pub loop-i-preserved : goal.loop-i-preserved
 loop-i-preserved c =
@@ -27,18 +26,16 @@ loop-i-preserved c =
     let a = c.args in
     let ls = fib_samples a.left.now in
     let rs = fib_samples a.right.now in
-    let left_here = l.invariant.3 (omega arith) in
-    let right_here = l.invariant.4 (omega arith) in (
-      omega arith,
-      simp length-set l.invariant.1,
+    let left_here = l.invariant.1 (omega arith) in
+    let right_here = l.invariant.2 (omega arith) in (
       turn_stored (frame_bytes a.n ls) (frame_bytes a.n rs) a.out.now l.out l.i 0 _ _
           (rw (frame_length a.n ls (omega arith)) (omega arith))
           (rw (frame_length a.n rs (omega arith)) (omega arith))
-          (omega arith) l.invariant.2
+          (omega arith) l.invariant.0
           (c.byte_of_sample.ensures ∙ ap byte_of left_here ∙ sym (frame_at a.n ls l.i (omega arith) (omega arith)))
           (c.byte_of_sample-in-loop-i.ensures ∙ ap byte_of right_here ∙ sym (frame_at a.n rs l.i (omega arith) (omega arith))),
-      sample_after a.left.now _ _ l.i l.invariant.3 (back w8 c.next_sample-a.type_inv ∙ c.next_sample-a.ensures),
-      sample_after a.right.now _ _ l.i l.invariant.4 (back w8 c.next_sample-b.type_inv ∙ c.next_sample-b.ensures),
+      sample_after a.left.now _ _ l.i l.invariant.1 (back w8 c.next_sample-a.type_inv ∙ c.next_sample-a.ensures),
+      sample_after a.right.now _ _ l.i l.invariant.2 (back w8 c.next_sample-b.type_inv ∙ c.next_sample-b.ensures),
     )
 
 pub returns : goal.returns
@@ -48,4 +45,4 @@ returns c =
     let ls = fib_samples a.left.now in
     let rs = fib_samples a.right.now in
     let long = by_turns_length (frame_bytes a.n ls) (frame_bytes a.n rs) a.n (frame_length a.n ls (omega arith)) (frame_length a.n rs (omega arith)) in
-    l.invariant.2 ∙ prefix_whole (by_turns (frame_bytes a.n ls) (frame_bytes a.n rs)) a.out.now (l.i + l.i) (omega (arith, long))
+    l.invariant.0 ∙ prefix_whole (by_turns (frame_bytes a.n ls) (frame_bytes a.n rs)) a.out.now (l.i + l.i) (omega (arith, long))

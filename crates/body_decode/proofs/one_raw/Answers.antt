@@ -1,9 +1,8 @@
 -- `body_decode::one_raw` meets its contract: a raw channel gives its own bytes, as many as the limit allows.
 use mathlib.Core.Path.{◌≡◌, sym, ap, ◌∙◌}
-use mathlib.Core.List.{List}
+use mathlib.Core.List.{List, ◌++◌}
 use Prim.Native.Nat.{ℕ, min}
-use lib.ListN.{length, take, length-take}
-use Rattle.laws.specs.Buffer.{written}
+use lib.ListN.{length, take, drop, length-take}
 use Rattle.refusal.proofs.OutcomeLaws.{outcome_fits, outcome_short}
 use Rattle.body_decode.proofs.BodyLaws.{take_least, one_raw_is}
 use Rattle.body_decode.proofs.one_raw.Goals as goal
@@ -16,28 +15,19 @@ module _ (limit : ℕ) (body : List ℕ) (n : ℕ) (least : n ≡ min limit (len
   all : take n body ≡ take limit body
   all = rw least (take_least limit body)
 
-pub returns-then-out-n-clause-result : goal.returns-then-out-n-clause-result
-returns-then-out-n-clause-result c =
+pub returns-then-out-n : goal.returns-then-out-n
+returns-then-out-n c =
     let a = c.args in
     let whole = one_raw_is a.frames a.body.now (λ i. (c.type_inv.body i).fits) in
-    (outcome_short _ a.out.now _ whole _ (count _ _ _ c.least-n.ensures) c.if-out-n.true).0
+    let short = outcome_short _ a.out.now _ whole _ (count _ _ _ c.min-n.ensures) c.if-out-n.true in
+    record { result = short.0; buffer = short.1 }
 
-pub returns-then-out-n-clause-buffer : goal.returns-then-out-n-clause-buffer
-returns-then-out-n-clause-buffer c =
+pub returns : goal.returns
+returns c =
     let a = c.args in
     let whole = one_raw_is a.frames a.body.now (λ i. (c.type_inv.body i).fits) in
-    (outcome_short _ a.out.now _ whole _ (count _ _ _ c.least-n.ensures) c.if-out-n.true).1
-
-pub returns-clause-result : goal.returns-clause-result
-returns-clause-result c =
-    let a = c.args in
-    let whole = one_raw_is a.frames a.body.now (λ i. (c.type_inv.body i).fits) in
-    let copied = c.copy_bytes.ensures ∙ ap (λ (l : List ℕ). written l a.out.now) (all _ _ _ c.least-n.ensures) in
-    (outcome_fits _ a.out.now _ whole _ (count _ _ _ c.least-n.ensures) _ c.if-out-n.false copied).0
-
-pub returns-clause-buffer : goal.returns-clause-buffer
-returns-clause-buffer c =
-    let a = c.args in
-    let whole = one_raw_is a.frames a.body.now (λ i. (c.type_inv.body i).fits) in
-    let copied = c.copy_bytes.ensures ∙ ap (λ (l : List ℕ). written l a.out.now) (all _ _ _ c.least-n.ensures) in
-    (outcome_fits _ a.out.now _ whole _ (count _ _ _ c.least-n.ensures) _ c.if-out-n.false copied).1
+    let long = count _ _ _ c.min-n.ensures in
+    let stored = c.copy_from_slice.ensures.after ∙ all _ _ _ c.min-n.ensures in
+    let rest = drop (length (take a.frames a.body.now)) a.out.now in
+    let fits = outcome_fits _ a.out.now _ whole _ long (c.copy_from_slice.new.self ++ drop c.min-n.result a.out.now) c.if-out-n.false (rw long (ap (λ (l : List ℕ). l ++ rest) stored)) in
+    record { result = fits.0; buffer = fits.1 }

@@ -16,32 +16,19 @@ stored :
     out ≡ written (by_turns (take n left) (take n right)) held → out ≡ written (by_turns (take limit (left_half body)) (take limit (right_half body))) held
 stored limit body left right held out n least l r e = rw (l, r) at e ∙ ap (λ (b : List ℕ). written b held) (raw_halves_are limit body n least)
 
-pub returns-then-out-length-clause-result : goal.returns-then-out-length-clause-result
-returns-then-out-length-clause-result c =
+pub returns-then-out-length : goal.returns-then-out-length
+returns-then-out-length c =
     let a = c.args in
     let whole = two_raw_is a.frames a.body.now (λ i. (c.type_inv.body i).fits) in
-    let count = raw_halves_length a.frames a.body.now c.least-n.result c.least-n.ensures in
-    (outcome_short _ a.out.now _ whole _ count c.if-out-length.true).0
+    let count = raw_halves_length a.frames a.body.now c.min-n.result c.min-n.ensures in
+    let both = outcome_short _ a.out.now _ whole _ count c.if-out-length.true in
+    record { result = both.0; buffer = both.1 }
 
-pub returns-then-out-length-clause-buffer : goal.returns-then-out-length-clause-buffer
-returns-then-out-length-clause-buffer c =
+pub returns : goal.returns
+returns c =
     let a = c.args in
     let whole = two_raw_is a.frames a.body.now (λ i. (c.type_inv.body i).fits) in
-    let count = raw_halves_length a.frames a.body.now c.least-n.result c.least-n.ensures in
-    (outcome_short _ a.out.now _ whole _ count c.if-out-length.true).1
-
-pub returns-clause-result : goal.returns-clause-result
-returns-clause-result c =
-    let a = c.args in
-    let whole = two_raw_is a.frames a.body.now (λ i. (c.type_inv.body i).fits) in
-    let count = raw_halves_length a.frames a.body.now c.least-n.result c.least-n.ensures in
-    let bytes = stored a.frames a.body.now _ _ a.out.now _ _ c.least-n.ensures c.left_half.ensures.contents c.right_half.ensures.contents c.interleave_bytes.ensures in
-    (outcome_fits _ a.out.now _ whole _ count _ c.if-out-length.false bytes).0
-
-pub returns-clause-buffer : goal.returns-clause-buffer
-returns-clause-buffer c =
-    let a = c.args in
-    let whole = two_raw_is a.frames a.body.now (λ i. (c.type_inv.body i).fits) in
-    let count = raw_halves_length a.frames a.body.now c.least-n.result c.least-n.ensures in
-    let bytes = stored a.frames a.body.now _ _ a.out.now _ _ c.least-n.ensures c.left_half.ensures.contents c.right_half.ensures.contents c.interleave_bytes.ensures in
-    (outcome_fits _ a.out.now _ whole _ count _ c.if-out-length.false bytes).1
+    let count = raw_halves_length a.frames a.body.now c.min-n.result c.min-n.ensures in
+    let bytes = stored a.frames a.body.now _ _ a.out.now _ _ c.min-n.ensures c.left_half.ensures.contents c.right_half.ensures.contents c.interleave_bytes.ensures in
+    let both = outcome_fits _ a.out.now _ whole _ count _ c.if-out-length.false bytes in
+    record { result = both.0; buffer = both.1 }

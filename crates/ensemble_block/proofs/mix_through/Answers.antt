@@ -7,7 +7,6 @@ use lib.IntN.{ℤ, pos}
 use lib.ListN.{length, take, drop, replicate}
 use Rattle.body_read.specs.Sides.{Sides}
 use Rattle.sheet.specs.Read.{read_sheet}
-use Rattle.ensemble_score.specs.Score.{listed}
 use Rattle.ensemble_block.specs.Mixed.{mixed_frame}
 use Rattle.ensemble_block.proofs.BlockLaws.{filled_to, filled_none, filled_more, filled_whole, filled_length, part_length, take_zeros, zeros_back, stretch_ready}
 use Rattle.ensemble_block.proofs.MixedLaws.{mixed_last}
@@ -31,7 +30,7 @@ pub loop-at-init : goal.loop-at-init
 loop-at-init c =
     let a = c.args in
     let s : Sides = record { left = a.left.now; right = a.right.now } in
-    let frames = mixed_frame (read_sheet a.sheet.now) s a.rate (listed a.count a.numbers.now) in
+    let frames = mixed_frame (read_sheet a.sheet.now) s a.rate a.score.now in
     (omega arith, omega arith, refl, filled_none frames a.place a.out.now, c.requires.3)
 
 pub mix_stretch-requires : goal.mix_stretch-requires
@@ -42,12 +41,12 @@ mix_stretch-requires c =
     let next = c.stretch_end-next.result in
     let e = c.stretch_end-next.ensures in
     let first = o.invariant.0 in
-    let in_time : a.place + c.least.result ≤ 4294967295 = omega (arith, c.least.ensures, c.ranges.place) in
-    let room : 2 * (next - a.place) ≤ length a.out.now = omega (arith, c.least.ensures, e.within) in
+    let in_time : a.place + c.min.result ≤ 4294967295 = omega (arith, c.min.ensures, c.ranges.place) in
+    let room : 2 * (next - a.place) ≤ length a.out.now = omega (arith, c.min.ensures, e.within) in
     let inside : 2 * (next - a.place) ≤ length o.out = rw o.invariant.2 room in
     let few : 2 * (next - at) ≤ length a.sums.now = omega (arith, e.short) in
     let ready =
-    stretch_ready (listed a.count a.numbers.now) a.rate at next _ _ a.sheet.now a.l a.left.now a.right.now _ _ c.requires.0 e in_time
+    stretch_ready a.score.now a.rate at next _ _ a.sheet.now a.l a.left.now a.right.now _ _ c.requires.0 e in_time
     (part_long a.place at next first e.some o.out inside) (totals_are a.place at next first e.some (length a.sums.now) o.sums few o.invariant.4)
     in
     (ready, c.requires.1)
@@ -56,13 +55,13 @@ pub loop-at-preserved : goal.loop-at-preserved
 loop-at-preserved c =
     let a = c.args in
     let s : Sides = record { left = a.left.now; right = a.right.now } in
-    let frames = mixed_frame (read_sheet a.sheet.now) s a.rate (listed a.count a.numbers.now) in
+    let frames = mixed_frame (read_sheet a.sheet.now) s a.rate a.score.now in
     let o = c.loop-at in
     let at = o.at in
     let next = c.stretch_end-next.result in
     let e = c.stretch_end-next.ensures in
     let first = o.invariant.0 in
-    let room : 2 * (next - a.place) ≤ length a.out.now = omega (arith, c.least.ensures, e.within) in
+    let room : 2 * (next - a.place) ≤ length a.out.now = omega (arith, c.min.ensures, e.within) in
     let inside : 2 * (next - a.place) ≤ length o.out = rw o.invariant.2 room in
     let few : 2 * (next - at) - 0 ≤ length a.sums.now = omega (arith, e.short) in
     let long = part_long a.place at next first e.some o.out inside in
@@ -81,10 +80,10 @@ returns c =
     let a = c.args in
     let s : Sides = record { left = a.left.now; right = a.right.now } in
     let v = read_sheet a.sheet.now in
-    let frames = mixed_frame v s a.rate (listed a.count a.numbers.now) in
+    let frames = mixed_frame v s a.rate a.score.now in
     let o = c.loop-at in
-    let end = a.place + c.least.result in
+    let end = a.place + c.min.result in
     let last : o.at ≡ end = omega (arith, o.invariant.1, c.loop-at-test.false) in
-    let ends = mixed_last v s a.rate (listed a.count a.numbers.now) in
-    filled_whole frames a.place a.out.now ends (omega (arith, c.ranges.place)) c.requires.2 end (ap (λ (n : ℕ). a.place + n) c.least.ensures)
+    let ends = mixed_last v s a.rate a.score.now in
+    filled_whole frames a.place a.out.now ends (omega (arith, c.ranges.place)) c.requires.2 end (ap (λ (n : ℕ). a.place + n) c.min.ensures)
     o.out _ (o.invariant.3 ∙ ap (filled_to frames a.place a.out.now) last) o.invariant.2 c.silence_from.ensures

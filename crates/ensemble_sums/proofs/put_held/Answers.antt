@@ -1,28 +1,31 @@
-use mathlib.Core.Path.{sym, ap, ◌∙◌}
-use Prim.Native.Nat.{◌-◌, ◌<◌}
+-- `ensemble_sums::put_held` meets its contract: `clamp` holds a sum within 16 bits, so that the cast loses nothing.
+use mathlib.Core.Path.{◌≡◌, ◌∙◌}
 use native.Mathlib.Omega.{arith}
-use lib.IntN.{pos}
-use lib.ListN.{length, replicate, get_or, length-set, length-replicate, get_or-replicate}
+use borrow.Author.Rules.{rules}
+use lib.IntN.{ℤ, pos}
+use lib.ListN.{get_or, length-map}
+use mathlib.Core.List.{map}
 use mir.Syntax.{w16, w32}
-use Rattle.laws.proofs.Prefix.{prefix_store, prefix_map}
-use Rattle.laws.proofs.Signed.{back}
+use mir.Val.{SFits, to_z, of_z}
+use mir.Facts.{to_z-of_z}
+use Rattle.laws.proofs.Prefix.{prefix_map}
 use Rattle.ensemble_sums.specs.Sums.{held_to16}
-use Rattle.ensemble_sums.proofs.SumLaws.{left_at}
+use Rattle.ensemble_sums.proofs.SumLaws.{clamped, all_written}
 use Rattle.ensemble_sums.proofs.put_held.Goals as goal
+use Rattle.std.proofs.lemmas.Int.{ints}
 
 pub loop-i-preserved : goal.loop-i-preserved
 loop-i-preserved c =
     let l = c.loop-i in
-    let sums₀ = c.args.sums.now in
-    let out₀ = c.args.out.now in
-    let zeros = replicate (length sums₀) (pos 0) in
-    let inside : l.i < length zeros = omega (arith, length-replicate (length sums₀) (pos 0)) in
-    let zero_is = sym (get_or-replicate (length sums₀) l.i (pos 0) (pos 0) (omega arith)) in
-    let sum_is_lem = left_at zeros sums₀ l.sums l.i (pos 0) (omega (arith, inside)) (omega arith) l.invariant.3 in
-    let held_is = back w16 c.held.type_inv ∙ c.held.ensures ∙ ap held_to16 (back w32 {z = get_or l.sums l.i (pos 0)} c.held-arg-1.given ∙ sum_is_lem) in (
-      omega arith,
-      simp length-set l.invariant.1,
-      simp length-set l.invariant.2,
-      prefix_store zeros sums₀ l.sums l.i (pos 0) (pos 0) inside (omega arith) l.invariant.3 zero_is,
-      prefix_map held_to16 sums₀ out₀ l.out l.i (pos 0) _ (omega arith) (omega arith) l.invariant.4 held_is,
-    )
+    let sum : ℤ = get_or c.args.sums.now l.i (pos 0) in
+    let fits : SFits w32 sum = search rules in
+    let held = c.clamp.ensures in
+    let same : to_z w16 (of_z w16 (to_z w32 (of_z w32 c.clamp.result))) ≡ c.clamp.result = omega (arith, ints, held.lower_bound, held.upper_bound) in
+    prefix_map held_to16 c.args.sums.now c.args.out.now l.out l.i (pos 0) _ c.loop-i-test.true (omega arith) l.invariant
+    (same ∙ held.value ∙ rw (to_z-of_z fits) (clamped sum))
+
+pub returns-clause-out : goal.returns-clause-out
+returns-clause-out c =
+    let a = c.args in
+    let l = c.loop-i in
+    l.invariant ∙ all_written (map held_to16 a.sums.now) a.out.now l.i (omega (arith, length-map a.sums.now held_to16)) (omega arith)

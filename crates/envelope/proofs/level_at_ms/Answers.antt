@@ -1,7 +1,7 @@
 -- A point that has ended sets the level and takes its time off what is left; the first that has not is on the way.
 use mathlib.Core.Path.{◌≡◌, sym, ap, ◌∙◌}
 use borrow.Author.Rules.{rules}
-use Prim.Native.Nat.{ℕ}
+use Prim.Native.Nat.{ℕ, ◌<◌, ◌≤◌}
 use lib.IntN.{ℤ}
 use mathlib.Core.List.{List}
 use mir.Syntax.{w32}
@@ -21,22 +21,27 @@ start_is points start t f = ap (λ (z : ℤ). level_at points z t) (to_z-of_z f)
 
 pub returns-then-left-duration : goal.returns-then-left-duration
 returns-then-left-duration c =
+    let p = c.read_point-p.result in
+    let next = c.in-Some.ensures.steps.1 in
     let dest_is : to_z w32 (of_z w32 c.read_point-p.result.dest) ≡ c.read_point-p.result.dest = to_z-of_z {w = w32} (search rules) in
-    let level = to_z w32 c.loop-at.level-bits in
+    let before : c.loop-point.left < c.read_point-p.result.duration_ms = omega (arith, c.from-duration.ensures, c.if-left-duration.true) in
     back w32 c.on_the_way.type_inv
     ∙ rw dest_is at c.on_the_way.ensures
-    ∙ sym (on_way c.args.points.now c.loop-at.at c.read_point-p.result c.read_point-p.ensures c.loop-at-test.true level c.loop-at.left c.if-left-duration.true)
-    ∙ c.loop-at.invariant.1
+    ∙ sym (on_way p _ _ _ c.read_point-p.ensures next.0 (next.1 ∙ c.loop-point.invariant.1) (to_z w32 c.loop-point.level-bits) c.loop-point.left before)
+    ∙ c.loop-point.invariant.0
     ∙ start_is (envelope_points c.args.points.now) c.args.start c.args.t_ms c.ranges.start
 
-pub loop-at-preserved : goal.loop-at-preserved
-loop-at-preserved c =
+pub loop-point-preserved : goal.loop-point-preserved
+loop-point-preserved c =
+    let p = c.read_point-p.result in
+    let steps = c.in-Some.ensures.steps in
     let dest_is : to_z w32 (of_z w32 c.read_point-p.result.dest) ≡ c.read_point-p.result.dest = to_z-of_z {w = w32} (search rules) in
-    let level = to_z w32 c.loop-at.level-bits in
-    let past = passed c.args.points.now c.loop-at.at c.read_point-p.result c.read_point-p.ensures c.loop-at-test.true level c.loop-at.left c.if-left-duration.false in
-    (omega arith, rw dest_is (sym past ∙ c.loop-at.invariant.1))
+    let ended : c.read_point-p.result.duration_ms ≤ c.loop-point.left = omega (arith, c.from-duration.ensures, c.if-left-duration.false) in
+    let past = passed p _ _ _ c.read_point-p.ensures steps.1.0 (steps.1.1 ∙ c.loop-point.invariant.1) (to_z w32 c.loop-point.level-bits) c.loop-point.left ended in
+    (rw (dest_is, c.from-duration.ensures) (sym past ∙ c.loop-point.invariant.0), steps.0 ∙ c.loop-point.invariant.1)
 
 pub returns : goal.returns
 returns c =
-    let none = none_left c.args.points.now c.loop-at.at c.loop-at-test.false (to_z w32 c.loop-at.level-bits) c.loop-at.left in
-    sym none ∙ c.loop-at.invariant.1 ∙ start_is (envelope_points c.args.points.now) c.args.start c.args.t_ms c.ranges.start
+    let short = c.in-None.ensures.steps.1.0 in
+    let none = none_left _ (omega (arith, short, c.loop-point.invariant.1)) (to_z w32 c.loop-point.level-bits) c.loop-point.left in
+    sym none ∙ c.loop-point.invariant.0 ∙ start_is (envelope_points c.args.points.now) c.args.start c.args.t_ms c.ranges.start

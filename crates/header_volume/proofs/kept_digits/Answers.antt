@@ -1,8 +1,8 @@
--- `header_volume::kept_digits` meets its contract: twice the remainder, against the unit, says which case of `closest` holds.
+-- `header_volume::kept_digits` meets its contract: how twice the remainder compares with the unit says which case of `closest` holds.
 use mathlib.Core.Path.{◌≡◌, sym, ◌∙◌}
-use Prim.Native.Nat.{ℕ, ◌*◌, ◌/◌, ◌%◌, ◌^◌, ◌<◌, ◌≤◌}
+use Prim.Native.Nat.{ℕ, ◌/◌, ◌%◌, ◌^◌, ◌<◌, ◌≤◌}
 use native.Mathlib.Nat.{mod-lt}
-use lib.Arith.{lt_of_le-ne}
+use Rattle.std.specs.Cmp.{ranked}
 use native.Mathlib.Numerals.{add-one}
 use native.Mathlib.Omega.{arith}
 use Rattle.header_volume.specs.Volume.{lowest_digit}
@@ -35,15 +35,11 @@ nonzero_rem-twice c = (known _ _ c.ranges.volume.fits c.lowest_digit-u.ensures).
 pub overflow_mul-twice : goal.overflow_mul-twice
 overflow_mul-twice c = omega (arith, known _ _ c.ranges.volume.fits c.lowest_digit-u.ensures)
 
-pub returns-then-twice-u : goal.returns-then-twice-u
-returns-then-twice-u c = sym (closest_below _ _ c.if-twice-u.true) ∙ kept_is _ _ c.lowest_digit-u.ensures
+pub returns-in-Less : goal.returns-in-Less
+returns-in-Less c = sym (closest_below _ _ (ranked _ _ _ c.in-Less.ensures)) ∙ kept_is _ _ c.lowest_digit-u.ensures
 
-pub returns-then-twice-u-2 : goal.returns-then-twice-u-2
-returns-then-twice-u-2 c = sym (closest_tie _ _ c.if-twice-u-2.true) ∙ kept_is _ _ c.lowest_digit-u.ensures
+pub returns-in-Equal : goal.returns-in-Equal
+returns-in-Equal c = sym (closest_tie _ _ (ranked _ _ _ c.in-Equal.ensures)) ∙ kept_is _ _ c.lowest_digit-u.ensures
 
-pub returns : goal.returns
-returns c =
-    let v = c.args.volume in
-    let u = c.lowest_digit-u.result in
-    let h : u < v % u * 2 = omega (arith, c.if-twice-u.false, lt_of_le-ne c.if-twice-u.false (λ e. c.if-twice-u-2.false (sym e))) in
-    add-one (v / u) ∙ sym (closest_above v u h) ∙ kept_is v u c.lowest_digit-u.ensures
+pub returns-in-Greater : goal.returns-in-Greater
+returns-in-Greater c = add-one _ ∙ sym (closest_above _ _ (ranked _ _ _ c.in-Greater.ensures)) ∙ kept_is _ _ c.lowest_digit-u.ensures

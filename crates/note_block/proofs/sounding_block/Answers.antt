@@ -35,5 +35,5 @@ play_stage-requires c =
     let small : length a.left.now < 2 ^ 63 = search rules in
     let counted : a.frames ≤ 4294967295 = omega (arith, c.ranges.frames) in
     block_ready a.n a.frames (length a.out.now) a.sheet.now a.l a.left.now a.right.now c.type_inv.sheet c.requires.0 c.requires.1 c.requires.2 small
-    _ c.sheet_header.ensures _ _ _ c.sheet_sequence.ensures c.is_there-sequence.ensures c.path_of-path.ensures
+    _ c.sheet_header.ensures _ _ _ c.sheet_sequence.ensures c.is_some-sequence.ensures c.path_of-path.ensures
     _ _ _ c.gains_of-g.ensures counted c.least-d.ensures

@@ -8,17 +8,17 @@ use lib.ListN.{take, drop}
 use lib.Seq.{sets}
 use Rattle.body_read.specs.Sides.{Sides}
 use Rattle.note.specs.Fill.{after_fill}
-use Rattle.note.specs.declared.Answer.{Answer}
 use Rattle.note_calls.specs.Play.{accepted_block}
 use Rattle.note_calls.proofs.PartLaws.{zeros, same_answer, same_note, part_places, part_stored}
 use Rattle.note_calls.proofs.fill_part.Goals as goal
+use Rattle.refusal.specs.Outcome.{Outcome}
 
 -- the whole, with the part as the fill leaves it
 abbrev put_back : List ℤ → ℕ → ℕ → List ℤ → List ℤ
 put_back d at size b = take at d ++ (b ++ drop size (drop at d))
 
 -- the whole, with the accepted block stored
-abbrev by_answer : List ℤ → ℕ → List ℤ → Answer → List ℤ
+abbrev by_answer : List ℤ → ℕ → List ℤ → Outcome ℕ → List ℤ
 by_answer d at buffer x = sets d at (accepted_block x buffer)
 
 pub returns : goal.returns

@@ -5,8 +5,5 @@ use lib.ListN.{length, drop}
 use Rattle.note_calls.specs.Made.{room_for}
 use Rattle.note_calls.proofs.has_room.Given as goal
 
-abbrev pub invariant-loop-i : goal.invariant-loop-i
-invariant-loop-i l = (l.i ≤ length l.calls) × (room_for (drop l.i l.calls) l.places_left l.answers_left ≡ room_for l.calls l.places l.answers)
-
-abbrev pub decreases-loop-i : goal.decreases-loop-i
-decreases-loop-i l = length l.calls - l.i
+abbrev pub invariant-loop-call : goal.invariant-loop-call
+invariant-loop-call l = (l.call-index ≤ length l.calls) × (room_for (drop l.call-index l.calls) l.places_left l.answers_left ≡ room_for l.calls l.places l.answers)

@@ -4,8 +4,5 @@ use lib.ListN.{length}
 use Rattle.note_calls.proofs.UnderwayLaws.{Calling}
 use Rattle.note_calls.proofs.run_calls.Given as goal
 
-abbrev pub invariant-loop-i : goal.invariant-loop-i
-invariant-loop-i l = Calling l.sheet (record { left = l.left; right = l.right }) l.initial.run.note l.calls l.initial.out l.initial.answers l.out l.answers l.run l.i
-
-abbrev pub decreases-loop-i : goal.decreases-loop-i
-decreases-loop-i l = length l.calls - l.i
+abbrev pub invariant-loop-call : goal.invariant-loop-call
+invariant-loop-call l = Calling l.sheet (record { left = l.left; right = l.right }) l.initial.run.note l.calls l.initial.out l.initial.answers l.out l.answers l.run l.call-index

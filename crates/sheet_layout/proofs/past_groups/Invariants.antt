@@ -6,8 +6,8 @@ use mathlib.Core.Path.{◌≡◌}
 use Rattle.sheet_layout.specs.Stretch.{stretch}
 use Rattle.sheet_layout.proofs.past_groups.Given as goal
 
-abbrev pub invariant-loop-i : goal.invariant-loop-i
-invariant-loop-i l = l.i + stretch l.opens l.member l.n (drop l.i l.sheet) ≡ l.at + stretch l.opens l.member l.n (drop l.at l.sheet)
+abbrev pub invariant-loop-kind : goal.invariant-loop-kind
+invariant-loop-kind l = l.i + stretch l.opens l.member l.n (drop l.i l.sheet) ≡ l.at + stretch l.opens l.member l.n (drop l.at l.sheet)
 
-abbrev pub decreases-loop-i : goal.decreases-loop-i
-decreases-loop-i l = length l.sheet - l.i
+abbrev pub decreases-loop-kind : goal.decreases-loop-kind
+decreases-loop-kind l = length l.sheet - l.i

@@ -10,12 +10,12 @@ use Rattle.header.specs.Header.{header_of, header_bytes}
 use Rattle.header.proofs.HeaderLaws.{header_length, header_back}
 use Rattle.sheet.specs.Judge.{judged}
 use Rattle.sheet.specs.Read.{read_sheet}
-use Rattle.sheet.specs.declared.judge.Judged.TheVariants.{Sound}
 use Rattle.sheet_layout.proofs.PartLaws.{from_channel, at_header}
 use Rattle.sheet_layout.proofs.SoundLaws.{sound_flat, sound_allowed}
 use Rattle.sheet_layout.proofs.sheet_header.Goals as goal
+use Rattle.std.specs.Prelude.{Ok}
 
-header_here : (s : List ℕ) → ((i : ℕ) → Fits w8 (get_or s i 0)) → judged s ≡ Sound →
+header_here : (s : List ℕ) → ((i : ℕ) → Fits w8 (get_or s i 0)) → judged s ≡ Ok tt →
     let v = read_sheet s in
     drop 1 s ≡ header_bytes v.header ++ from_channel v
 header_here s bytes sound = at_header (read_sheet s) s (sound_flat s bytes sound)

@@ -5,15 +5,14 @@ use Rattle.small_chunks.specs.Pan.{pan_of}
 use Rattle.small_chunks.proofs.FieldLaws.{pan_length, pan_back}
 use Rattle.sheet.specs.Allowed.{PanFits}
 use Rattle.sheet.specs.Read.{read_sheet}
-use Rattle.sheet_layout.specs.Answers.{pan_answer}
-use Rattle.sheet_layout.specs.declared.MaybePan.TheVariants.{Panned}
 use Rattle.sheet_layout.proofs.SoundLaws.{sound_flat, sound_allowed}
 use Rattle.sheet_layout.proofs.ThereLaws.{present_read, pan_missing, pan_present}
 use Rattle.sheet_layout.proofs.sheet_pan.Goals as goal
+use Rattle.std.specs.Prelude.{Some}
 
 pub returns-then-at-l : goal.returns-then-at-l
 returns-then-at-l c =
-    sym (ap pan_answer (pan_missing (read_sheet c.args.sheet.now) c.args.l c.requires.1 c.if-at-l.true))
+    sym (pan_missing (read_sheet c.args.sheet.now) c.args.l c.requires.1 c.if-at-l.true)
 
 pub overflow_add-body : goal.overflow_add-body
 overflow_add-body c =
@@ -32,4 +31,4 @@ returns c =
     let s = c.args.sheet.now in
     let p = pan_present (read_sheet s) c.args.l c.requires.1 s (sound_flat s c.type_inv.sheet c.requires.0) c.if-at-l.false in
     let allowed = sound_allowed s c.type_inv.sheet c.requires.0 in
-    ap Panned c.read_pan.ensures ∙ sym (ap pan_answer (present_read pan_of PanFits (λ a r f. pan_back a r f.position) p allowed.pan))
+    ap Some c.read_pan.ensures ∙ sym (present_read pan_of PanFits (λ a r f. pan_back a r f.position) p allowed.pan)

@@ -2,13 +2,13 @@
 use mathlib.Core.Path.{sym, ap}
 use native.Mathlib.Omega.{arith}
 use Rattle.sheet.specs.Read.{read_sheet}
-use Rattle.sheet_layout.specs.Answers.{sequence_answer}
 use Rattle.sheet_layout.proofs.ThereLaws.{sequence_missing, sequence_within, sequence_counted}
 use Rattle.sheet_layout.proofs.sheet_sequence.Goals as goal
+use Rattle.std.specs.Prelude.{length, option_map}
 
 pub returns-then-at-l : goal.returns-then-at-l
 returns-then-at-l c =
-    sym (ap sequence_answer (sequence_missing (read_sheet c.args.sheet.now) c.args.l c.requires.1 c.if-at-l.true))
+    sym (ap (option_map length) (sequence_missing (read_sheet c.args.sheet.now) c.args.l c.requires.1 c.if-at-l.true))
 
 pub overflow_sub-segments : goal.overflow_sub-segments
 overflow_sub-segments c =

@@ -4,7 +4,6 @@ use Prim.Native.Nat.{ℕ, ◌+◌}
 use lib.Dec.{eqb}
 use lib.ListN.{get_or, drop}
 use mathlib.Core.List.{List, [], ◌∷◌}
-use mathlib.Core.Option.{some}
 use mathlib.Core.Path.{◌≡◌, refl, sym, ap, ◌∙◌}
 use native.Mathlib.Omega.{arith}
 use mir.Syntax.{w8}
@@ -15,15 +14,15 @@ use Rattle.small_chunks.specs.declared.channel.ChannelAssignment.TheVariants.{Le
 use Rattle.sheet.specs.Judge.{judged}
 use Rattle.sheet.specs.Read.{read_sheet}
 use Rattle.sheet.specs.Voice.{is_stereo}
-use Rattle.sheet.specs.declared.judge.Judged.TheVariants.{Sound}
 use Rattle.sheet_layout.specs.Layout.{channel_at, pan_at, layout_of}
 use Rattle.sheet_layout.specs.Stretch.{one_length}
 use Rattle.sheet_layout.proofs.PartLaws.{from_pan, pass_to, pass_channel}
 use Rattle.sheet_layout.proofs.SoundLaws.{sound_flat}
 use Rattle.sheet_layout.proofs.ThereLaws.{Present, channel_missing, channel_present, channel_byte}
 use Rattle.sheet_layout.proofs.sheet_stereo.Goals as goal
+use Rattle.std.specs.Prelude.{Ok, Some}
 
-module _ (s : List ℕ) (bytes : (i : ℕ) → Fits w8 (get_or s i 0)) (sound : judged s ≡ Sound) (pan : ℕ) (is : pan ≡ 21 + one_length 2 2 (drop 21 s)) where
+module _ (s : List ℕ) (bytes : (i : ℕ) → Fits w8 (get_or s i 0)) (sound : judged s ≡ Ok tt) (pan : ℕ) (is : pan ≡ 21 + one_length 2 2 (drop 21 s)) where
   -- the pass ends where the pan begins
   passed : pan ≡ pan_at (read_sheet s)
   unfolding channel_at
@@ -50,7 +49,7 @@ bounds-sheet-22 c =
     let p = here c.args.sheet.now c.type_inv.sheet c.requires _ c.past_one-pan.ensures c.if-pan-eq21.false in
     omega arith
 
-by_value : (x : ChannelAssignment) → eqb (channel_value_of x) 6 ≡ is_stereo (some x)
+by_value : (x : ChannelAssignment) → eqb (channel_value_of x) 6 ≡ is_stereo (Some x)
 by_value Left = refl
 by_value Right = refl
 by_value Stereo = refl

@@ -22,7 +22,7 @@ returns-in-1 c = rw (c.in-1.is, header_chunk) c.put_chunk.ensures
 pub returns-in-2 : goal.returns-in-2
 returns-in-2 c =
     let a = c.args in
-    rw (c.in-2.is, channel_chunk, byte_at a.sheet.now a.start a.next c.requires.1 (c.requires.4 c.in-2.is))
+    rw (c.in-2.is, channel_chunk, byte_at a.sheet.now a.opener.start a.opener.next c.requires.1 (c.requires.4 c.in-2.is))
     c.put_channel.ensures
 
 pub returns-in-3 : goal.returns-in-3
@@ -43,13 +43,13 @@ returns-in-9 c = rw (c.in-9.is, fade_chunk) c.put_chunk-in-9.ensures
 pub returns-in-10 : goal.returns-in-10
 returns-in-10 c =
     let a = c.args in
-    let kind_byte = byte_at a.sheet.now a.start a.next c.requires.1 (c.requires.5 c.in-10.is) in
+    let kind_byte = byte_at a.sheet.now a.opener.start a.opener.next c.requires.1 (c.requires.5 c.in-10.is) in
     rw (c.in-10.is, text_chunk_lem, kind_byte, ← c.text_name.ensures)
     c.put_group-in-10.ensures
 
 pub returns-in_default : goal.returns-in_default
 returns-in_default c =
-    rw (no_chunk c.args.kind _ _ record {
+    rw (no_chunk c.args.opener.kind _ _ record {
       no_header = omega arith;
       no_channel = omega arith;
       no_pan = omega arith;

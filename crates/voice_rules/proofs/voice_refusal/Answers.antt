@@ -12,6 +12,7 @@ use Rattle.sheet.specs.Read.{read_sheet}
 use Rattle.sheet.specs.Voice.{Voice, is_stereo}
 use Rattle.body_read.specs.Sides.{lengths_suit}
 use Rattle.voice_rules.specs.Rules.{voice_rules}
+use Rattle.std.proofs.lemmas.Result.{err_from_is_err_and}
 use Rattle.refusal.proofs.RuleLaws.{Passed, first_here, first_later, first_none}
 use Rattle.voice_rules.proofs.voice_refusal.Goals as goal
 
@@ -33,28 +34,29 @@ returns-then-h-gt1 c =
     let read = c.sheet_header-h in
     sym (first_here _ _ (rw (← read.ensures) (lt-ltb 1 read.result.compression_byte c.if-h-gt1.true)))
 
-pub returns-then-suited : goal.returns-then-suited
-returns-then-suited c =
+pub returns-then-is_suited : goal.returns-then-is_suited
+returns-then-is_suited c =
     let a = c.args in
     let v = read_sheet a.sheet.now in
     let read = c.sheet_header-h in
-    let small = total_is read.result _ (sym c.in-Sum.ensures) in
-    let tested = suits v a.left a.right read.ensures c.sheet_stereo.ensures c.is_suited-suited.ensures ∙ c.if-suited.true in
+    let small = total_is read.result _ (sym c.total_samples_per_channel.ensures ∙ c.in_ok-total_samples_per_channel.was) in
+    let tested = suits v a.left a.right read.ensures c.sheet_stereo.ensures c.is_suited.ensures ∙ c.if-is_suited.true in
     sym (total_passed v a.left a.right read.ensures c.if-h-gt1.false small.0 ∙ first_later _ _ (ap not tested) ∙ first_none)
 
-pub returns-in-Refused : goal.returns-in-Refused
-returns-in-Refused c =
+pub returns-in_err-total_samples_per_channel : goal.returns-in_err-total_samples_per_channel
+returns-in_err-total_samples_per_channel c =
     let a = c.args in
     let read = c.sheet_header-h in
-    let large = total_not read.result _ (sym c.in-Refused.ensures) in
+    let large = total_not read.result _ (sym c.total_samples_per_channel.ensures ∙ c.in_err-total_samples_per_channel.was) in
     let passed = compression_passed (read_sheet a.sheet.now) a.left a.right read.ensures c.if-h-gt1.false in
-    sym (passed ∙ first_here _ _ (rw (← read.ensures) (le-leb (2 ^ 64) (total_samples read.result) large.0)))
+    let p = err_from_is_err_and c.from_residual.result c.from_residual.ensures.1 in
+    rw (p.1, p.2, ← large.1) (sym (passed ∙ first_here _ _ (rw (← read.ensures) (le-leb (2 ^ 64) (total_samples read.result) large.0))))
 
-pub returns-else-suited : goal.returns-else-suited
-returns-else-suited c =
+pub returns : goal.returns
+returns c =
     let a = c.args in
     let v = read_sheet a.sheet.now in
     let read = c.sheet_header-h in
-    let small = total_is read.result _ (sym c.in-Sum.ensures) in
-    let tested = suits v a.left a.right read.ensures c.sheet_stereo.ensures c.is_suited-suited.ensures ∙ c.if-suited.false in
+    let small = total_is read.result _ (sym c.total_samples_per_channel.ensures ∙ c.in_ok-total_samples_per_channel.was) in
+    let tested = suits v a.left a.right read.ensures c.sheet_stereo.ensures c.is_suited.ensures ∙ c.if-is_suited.false in
     sym (total_passed v a.left a.right read.ensures c.if-h-gt1.false small.0 ∙ first_here _ _ (ap not tested))

@@ -7,11 +7,11 @@ use Rattle.body_read.proofs.decode.decode_channel.Goals as goal
 pub decode_stream-requires : goal.decode_stream-requires
 decode_stream-requires c =
     let a = c.args in
-    let channel = channel_gives a.h a.c a.bytes.now c.in-Samples.n (sym c.channel_length.ensures ∙ c.in-Samples.is) in
+    let channel = channel_gives a.h a.c a.bytes.now c.in_ok-n.n (sym c.channel_length.ensures ∙ c.in_ok-n.was) in
     (channel.has, c.if-out-n.false)
 
-pub returns-else-out-n-clause-buffer : goal.returns-else-out-n-clause-buffer
-returns-else-out-n-clause-buffer c =
+pub returns-clause-buffer : goal.returns-clause-buffer
+returns-clause-buffer c =
     let a = c.args in
-    let channel = channel_gives a.h a.c a.bytes.now c.in-Samples.n (sym c.channel_length.ensures ∙ c.in-Samples.is) in
+    let channel = channel_gives a.h a.c a.bytes.now c.in_ok-n.n (sym c.channel_length.ensures ∙ c.in_ok-n.was) in
     (outcome_fits _ a.out.now _ channel.is _ (sym channel.long) _ c.if-out-n.false c.decode_stream.ensures).1

@@ -6,43 +6,43 @@ use Rattle.body_read.proofs.decode.decode_sides.Goals as goal
 pub decode_two-requires : goal.decode_two-requires
 decode_two-requires c =
     let a = c.args in
-    let found = sym c.compression.ensures ∙ c.in-Known.is in
-    rw (sides_two a.h a.stereo a.body.now c.in-Known.c found c.if-stereo.true) at c.requires
+    let found = sym c.compression.ensures ∙ c.in-Ok.is in
+    rw (sides_two a.h a.stereo a.body.now c.in-Ok.c found c.if-stereo.true) at c.requires
 
-pub returns-in-Refused-clause-left : goal.returns-in-Refused-clause-left
-returns-in-Refused-clause-left c =
+pub returns-in_default-clause-left : goal.returns-in_default-clause-left
+returns-in_default-clause-left c =
     let a = c.args in
-    rw (sides_unknown a.h a.stereo a.body.now _ (sym c.compression.ensures ∙ c.in-Refused.is)) refl
+    rw (sides_unknown a.h a.stereo a.body.now _ (sym c.compression.ensures ∙ c.in_default.is)) refl
 
-pub returns-in-Refused-clause-right : goal.returns-in-Refused-clause-right
-returns-in-Refused-clause-right c =
+pub returns-in_default-clause-right : goal.returns-in_default-clause-right
+returns-in_default-clause-right c =
     let a = c.args in
-    rw (sides_unknown a.h a.stereo a.body.now _ (sym c.compression.ensures ∙ c.in-Refused.is)) refl
+    rw (sides_unknown a.h a.stereo a.body.now _ (sym c.compression.ensures ∙ c.in_default.is)) refl
 
 pub returns-then-stereo-clause-left : goal.returns-then-stereo-clause-left
 returns-then-stereo-clause-left c =
     let a = c.args in
-    let found = sym c.compression.ensures ∙ c.in-Known.is in
-    rw (sides_two a.h a.stereo a.body.now c.in-Known.c found c.if-stereo.true) c.decode_two.ensures.left
+    let found = sym c.compression.ensures ∙ c.in-Ok.is in
+    rw (sides_two a.h a.stereo a.body.now c.in-Ok.c found c.if-stereo.true) c.decode_two.ensures.left
 
 pub returns-then-stereo-clause-right : goal.returns-then-stereo-clause-right
 returns-then-stereo-clause-right c =
     let a = c.args in
-    let found = sym c.compression.ensures ∙ c.in-Known.is in
-    rw (sides_two a.h a.stereo a.body.now c.in-Known.c found c.if-stereo.true) c.decode_two.ensures.right
+    let found = sym c.compression.ensures ∙ c.in-Ok.is in
+    rw (sides_two a.h a.stereo a.body.now c.in-Ok.c found c.if-stereo.true) c.decode_two.ensures.right
 
-pub returns-else-stereo-clause-left : goal.returns-else-stereo-clause-left
-returns-else-stereo-clause-left c =
+pub returns-clause-left : goal.returns-clause-left
+returns-clause-left c =
     let a = c.args in
-    let k = c.in-Known.c in
-    let one = sides_one a.h a.stereo a.body.now k (sym c.compression.ensures ∙ c.in-Known.is) c.if-stereo.false in
+    let k = c.in-Ok.c in
+    let one = sides_one a.h a.stereo a.body.now k (sym c.compression.ensures ∙ c.in-Ok.is) c.if-stereo.false in
     let buffers = one_written a.h k a.body.now a.left.now a.right.now _ (rw one at c.requires) c.decode_channel.ensures.buffer in
     rw one buffers.0
 
-pub returns-else-stereo-clause-right : goal.returns-else-stereo-clause-right
-returns-else-stereo-clause-right c =
+pub returns-clause-right : goal.returns-clause-right
+returns-clause-right c =
     let a = c.args in
-    let k = c.in-Known.c in
-    let one = sides_one a.h a.stereo a.body.now k (sym c.compression.ensures ∙ c.in-Known.is) c.if-stereo.false in
+    let k = c.in-Ok.c in
+    let one = sides_one a.h a.stereo a.body.now k (sym c.compression.ensures ∙ c.in-Ok.is) c.if-stereo.false in
     let buffers = one_written a.h k a.body.now a.left.now a.right.now _ (rw one at c.requires) c.decode_channel.ensures.buffer in
     rw one buffers.1

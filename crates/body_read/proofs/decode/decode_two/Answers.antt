@@ -3,10 +3,10 @@ use mathlib.Core.Path.{refl, sym, ap, ◌∙◌}
 use mathlib.Core.List.{List}
 use Prim.Native.Nat.{ℕ}
 use lib.IntN.{ℤ}
-use Rattle.refusal.specs.Outcome.{buffer_after}
 use Rattle.body_read.specs.Sides.{channel_samples}
 use Rattle.body_read.proofs.SideLaws.{two_uneven, two_written}
 use Rattle.body_read.proofs.decode.decode_two.Goals as goal
+use Rattle.refusal.specs.Outcome.{buffer_after}
 
 pub returns-then-is_uneven-clause-left : goal.returns-then-is_uneven-clause-left
 returns-then-is_uneven-clause-left c =

@@ -32,25 +32,25 @@ returns-then-hi_octave_samples-eq0 c =
     let zero : hi a.h ≡ 0 = sym c.hi_octave_samples.ensures ∙ c.if-hi_octave_samples-eq0.true in
     sym (suit_is a.h a.stereo a.left a.right right_is ∙ rw (eq-eqb (hi a.h) 0 zero))
 
-pub returns-in-Refused : goal.returns-in-Refused
-returns-in-Refused c =
+pub returns-in-Err : goal.returns-in-Err
+returns-in-Err c =
     let a = c.args in
     let right_is : right_suits a.h a.stereo a.left a.right ≡ true = elim c.if-stereo.branch [
       | then-stereo+else-right-left w ↦ rw w.if-stereo.true (eq-eqb a.right a.left w.if-right-left.false)
       | else-stereo+else-right-ne0 w ↦ rw w.if-stereo.false (eq-eqb a.right 0 w.if-right-ne0.false)
     ] in
     let some : hi a.h ≡ 0 → ⊥ = λ e. c.if-hi_octave_samples-eq0.false (c.hi_octave_samples.ensures ∙ e) in
-    let large = total_not a.h _ (sym c.total_samples_per_channel.ensures ∙ c.in-Refused.is) in
+    let large = total_not a.h _ (sym c.total_samples_per_channel.ensures ∙ c.in-Err.is) in
     let apart : a.left ≡ total_samples a.h → ⊥ = λ e. omega (arith, large.0, c.ranges.left) in
     sym (suit_is a.h a.stereo a.left a.right right_is ∙ rw (ne_eqb (hi a.h) 0 some, ne_eqb a.left (total_samples a.h) apart))
 
-pub returns-in-Sum : goal.returns-in-Sum
-returns-in-Sum c =
+pub returns-in-Ok : goal.returns-in-Ok
+returns-in-Ok c =
     let a = c.args in
     let right_is : right_suits a.h a.stereo a.left a.right ≡ true = elim c.if-stereo.branch [
       | then-stereo+else-right-left w ↦ rw w.if-stereo.true (eq-eqb a.right a.left w.if-right-left.false)
       | else-stereo+else-right-ne0 w ↦ rw w.if-stereo.false (eq-eqb a.right 0 w.if-right-ne0.false)
     ] in
     let some : hi a.h ≡ 0 → ⊥ = λ e. c.if-hi_octave_samples-eq0.false (c.hi_octave_samples.ensures ∙ e) in
-    let is = total_is a.h c.in-Sum.total (sym c.total_samples_per_channel.ensures ∙ c.in-Sum.is) in
+    let is = total_is a.h c.in-Ok.total (sym c.total_samples_per_channel.ensures ∙ c.in-Ok.is) in
     sym (suit_is a.h a.stereo a.left a.right right_is ∙ rw (ne_eqb (hi a.h) 0 some) (ap (eqb a.left) is.1))

@@ -17,12 +17,10 @@ loop-i-preserved c =
     let a = c.args in
     let y_is = c.draw-x.ensures in
     let stored = back w8 c.sample_of_byte.type_inv ∙ c.sample_of_byte.ensures in
-    let next = turn_next a.number a.n l.i l.x _ (omega arith) y_is l.invariant.3 in (
-      omega arith,
-      simp length-set l.invariant.1,
-      rw stored (prefix_next (drawn_samples a.n a.number) _ a.out.now l.out l.i _ next (omega arith) l.invariant.2),
-      turn_left a.number a.n l.i l.x _ (omega arith) y_is l.invariant.3,
-      turn_last a.number a.n l.i l.x _ (omega arith) y_is l.invariant.4,
+    let next = turn_next a.number a.n l.i l.x _ (omega arith) y_is l.invariant.1 in (
+      rw stored (prefix_next (drawn_samples a.n a.number) _ a.out.now l.out l.i _ next (omega arith) l.invariant.0),
+      turn_left a.number a.n l.i l.x _ (omega arith) y_is l.invariant.1,
+      turn_last a.number a.n l.i l.x _ (omega arith) y_is l.invariant.2,
     )
 
 pub returns : goal.returns
@@ -33,6 +31,6 @@ returns c =
     let all : l.i ≡ a.n = omega arith in
     let none : a.n - l.i ≡ 0 = omega arith in
     record {
-      result = sym (ap (λ (k : ℕ). nth_draw k l.x) none) ∙ l.invariant.4;
-      buffer = l.invariant.2 ∙ prefix_whole (drawn_samples a.n a.number) a.out.now l.i (all ∙ sym (samples_length a.n a.number));
+      result = sym (ap (λ (k : ℕ). nth_draw k l.x) none) ∙ l.invariant.2;
+      buffer = l.invariant.0 ∙ prefix_whole (drawn_samples a.n a.number) a.out.now l.i (all ∙ sym (samples_length a.n a.number));
     }

@@ -1,18 +1,14 @@
 -- After i turns `out` holds the first i samples, and from x, the last of i draws, come those that are left.
 use mathlib.Core.Path.{◌≡◌}
 use mathlib.Core.List.{◌++◌}
-use Prim.Native.Nat.{◌-◌, ◌≤◌}
-use lib.ListN.{length, take, drop}
+use Prim.Native.Nat.{◌-◌}
+use lib.ListN.{take, drop}
 use Rattle.drawn.specs.Draw.{nth_draw}
 use Rattle.drawn.specs.DrawnVoice.{drawn_samples}
 use Rattle.drawn.proofs.draw.put_samples.Given as goal
 
 abbrev pub invariant-loop-i : goal.invariant-loop-i
 invariant-loop-i l =
-    (l.i ≤ l.n) × (length l.out ≡ length l.initial.out)
-    × (l.out ≡ take l.i (drawn_samples l.n l.number) ++ drop l.i l.initial.out)
+    (l.out ≡ take l.i (drawn_samples l.n l.number) ++ drop l.i l.initial.out)
     × (drop l.i (drawn_samples l.n l.number) ≡ drawn_samples (l.n - l.i) l.x)
     × (nth_draw (l.n - l.i) l.x ≡ nth_draw l.n l.number)
-
-abbrev pub decreases-loop-i : goal.decreases-loop-i
-decreases-loop-i l = l.n - l.i

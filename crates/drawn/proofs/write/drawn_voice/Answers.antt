@@ -1,11 +1,11 @@
 -- `drawn::write::drawn_voice` meets its contract: the plan says what is drawn and how long it is, and each test whether it fits.
 use native.Mathlib.Omega.{arith}
-use Rattle.refusal.specs.Numbers.{zero_number}
 use Rattle.voice_read.proofs.AnswerLaws.{answer_refused, sheet_short, left_short, right_short}
 use Rattle.drawn.specs.DrawnVoice.{drawn}
 use Rattle.drawn.proofs.VoiceLaws.{total_most, drawn_refuses, Planned, measured, outputs_drawn}
 use Rattle.drawn.proofs.write.drawn_voice.Goals as goal
 use Rattle.drawn.proofs.write.drawn_voice.Goals.{After-lengths_of-l}
+use Rattle.refusal.specs.declared.Refusal.TheVariants.{ZeroNumber}
 
 -- what the five draws and the lengths say
 planned : (c : After-lengths_of-l) → let plan = c.plan_of-plan.result in Planned c.args.number plan.header plan.stereo plan.last c.lengths_of-l.result
@@ -25,7 +25,7 @@ planned c =
 pub returns-then-number-eq0 : goal.returns-then-number-eq0
 returns-then-number-eq0 c =
     let a = c.args in
-    let w = answer_refused (drawn a.number) a.sheet.now a.left.now a.right.now zero_number (drawn_refuses a.number c.if-number-eq0.true) in
+    let w = answer_refused (drawn a.number) a.sheet.now a.left.now a.right.now ZeroNumber (drawn_refuses a.number c.if-number-eq0.true) in
     record { result = w.0; sheet = w.1.0; left = w.1.1.0; right = w.1.1.1 }
 
 pub lengths_of-l-requires : goal.lengths_of-l-requires

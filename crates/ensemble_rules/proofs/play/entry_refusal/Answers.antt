@@ -6,23 +6,23 @@ use Rattle.refusal.proofs.RuleLaws.{first_stands, first_join}
 use Rattle.sheet.specs.Read.{read_sheet}
 use Rattle.note_frame.specs.declared.playing.Key.TheVariants.{Held}
 use Rattle.note_rules.specs.Rules.{octave_rules, note_rules}
-use Rattle.note_rules.proofs.RuleLaws.{octave_numbered}
 use Rattle.ensemble_rules.proofs.RuleLaws.{held_first}
 use Rattle.ensemble_rules.proofs.play.entry_refusal.Goals as goal
+use Rattle.std.proofs.lemmas.Result.{err_from_is_err_and}
 
-pub returns-then-of_octave-ne0 : goal.returns-then-of_octave-ne0
-returns-then-of_octave-ne0 c =
+pub returns-in_err-octave_refusal : goal.returns-in_err-octave_refusal
+returns-in_err-octave_refusal c =
     let a = c.args in
-    let e = c.octave_refusal-of_octave.ensures in
-    e ∙ sym (first_stands (octave_rules (read_sheet a.sheet.now) a.e.octave) _ (λ none. c.if-of_octave-ne0.true (e ∙ none)))
+    let p = err_from_is_err_and c.from_residual.result c.from_residual.ensures.1 in
+    rw (p.1, p.2) (sym (first_stands (octave_rules (read_sheet a.sheet.now) a.e.octave) _ _ (sym c.octave_refusal.ensures ∙ c.in_err-octave_refusal.was)))
 
 pub returns : goal.returns
 returns c =
     let a = c.args in
     let v = read_sheet a.sheet.now in
     let e = a.e in
-    let none = sym c.octave_refusal-of_octave.ensures ∙ c.if-of_octave-ne0.false in
+    let none = sym c.octave_refusal.ensures ∙ c.in_ok-octave_refusal.was in
     c.note_refusal.ensures
     ∙ ap (λ h. first_holding (note_rules h (record { octave = e.octave; velocity = e.velocity; step = e.step; rate = a.rate; key = Held }) 0)) c.sheet_header-h.ensures
     ∙ held_first v.header e.octave e.velocity e.step a.rate
-    ∙ sym (first_join (octave_rules v e.octave) _ (octave_numbered v e.octave) none)
+    ∙ sym (first_join (octave_rules v e.octave) _ none)

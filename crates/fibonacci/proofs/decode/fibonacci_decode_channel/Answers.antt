@@ -6,13 +6,13 @@ use native.Mathlib.Omega.{arith}
 use borrow.Author.Tests.{le-ltb}
 use lib.ListN.{length}
 use lib.Seq.{take_all}
-use Rattle.refusal.specs.Outcome.{gives}
 use Rattle.fibonacci.specs.Decode.{fib_samples, fib_channel}
 use Rattle.fibonacci.proofs.DecodeLaws.{samples_length}
 use Rattle.refusal.proofs.OutcomeLaws.{outcome_fits, outcome_short}
 use Rattle.fibonacci.proofs.decode.fibonacci_decode_channel.Goals as goal
+use Rattle.std.specs.Prelude.{Ok}
 
-given : (body : List ℕ) → 2 ≤ length body → fib_channel body ≡ gives (fib_samples body)
+given : (body : List ℕ) → 2 ≤ length body → fib_channel body ≡ Ok (fib_samples body)
 given body h = rw (le-ltb (length body) 2 h)
 
 pub returns-then-out-n-clause-result : goal.returns-then-out-n-clause-result

@@ -11,7 +11,7 @@ use Rattle.fibonacci.proofs.SearchLaws.{key_of_delta, least_next, least_none}
 use Rattle.fibonacci.proofs.search.least_key.Goals as goal
 
 pub loop-i-init : goal.loop-i-init
-loop-i-init c = (omega arith, least_none _)
+loop-i-init c = least_none _
 
 pub loop-i-preserved : goal.loop-i-preserved
 loop-i-preserved c =
@@ -19,4 +19,4 @@ loop-i-preserved c =
     let delta_is = back w8 {z = get_or c.args.deltas.now i (pos 0)} (omega arith) ∙ c.requires.each i (omega arith) in
     let key_is = c.key.ensures ∙ key_of_delta _ _ i _ delta_is in
     let keys = key_at (to_z w8 (of_z w8 c.args.prev)) (to_z w8 (of_z w8 c.args.target)) in
-    (omega arith, omega (arith, c.lesser-least.ensures, key_is, c.loop-i.invariant.1, least_next keys i))
+    omega (arith, c.min-least.ensures, key_is, c.loop-i.invariant, least_next keys i)

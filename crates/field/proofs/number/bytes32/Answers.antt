@@ -1,8 +1,6 @@
--- `field::number::bytes32` meets its contract.
-use Rattle.std.proofs.Common.{div-one}
-use Rattle.field.specs.BigEndian.{big_endian_bytes}
+use Rattle.std.proofs.Common.{◌∙◌}
+use Rattle.field.proofs.BigEndianLaws.{library_bytes}
 use Rattle.field.proofs.number.bytes32.Goals as goal
 
 pub returns : goal.returns
-unfolding big_endian_bytes
-returns c = rw div-one
+returns c = c.to_be_bytes.ensures ∙ library_bytes 4 _

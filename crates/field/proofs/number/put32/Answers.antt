@@ -1,10 +1,7 @@
--- `field::number::put32` meets its contract: four stores, joined.
-use Rattle.std.proofs.Common.{div-one}
-use Rattle.laws.proofs.PutLaws.{put_then}
-use Rattle.field.specs.BigEndian.{big_endian_bytes}
+use Rattle.std.proofs.Common.{◌∙◌}
+use Rattle.laws.proofs.PutLaws.{put_same}
+use Rattle.field.proofs.BigEndianLaws.{library_bytes}
 use Rattle.field.proofs.number.put32.Goals as goal
 
 pub returns : goal.returns
-unfolding big_endian_bytes
-returns c =
-    rw div-one (put_then c.put_byte-a.ensures (put_then c.put_byte-b.ensures (put_then c.put_byte-c.ensures c.put_byte.ensures)))
+returns c = put_same (c.to_be_bytes.ensures ∙ library_bytes 4 _) c.put_all.ensures

@@ -1,21 +1,22 @@
--- A turn stores the part that begins at its place; what is left of the records are that one and those after it.
-use Rattle.std.proofs.Common.{◌+◌, ◌-◌, ◌∷◌, take, drop, ◌∙◌, arith}
+-- A turn stores the part that comes off the front of what is left.
+use Rattle.std.proofs.Common.{◌∷◌, ◌∙◌, arith}
 use Rattle.laws.proofs.PutLaws.{underway_step, underway_room, underway_done}
-use Rattle.field.proofs.TaggedLaws.{tagged_at, tagged_at_end}
+use Rattle.field.proofs.TaggedLaws.{tagged_front, tagged_end}
 use Rattle.field.proofs.store.put_tagged.Goals as goal
 
 pub put_record-o-requires : goal.put_record-o-requires
 put_record-o-requires c =
-    let a = c.args in
-    let i = c.loop-i.i in
-    let turn = tagged_at a.tag a.n c.requires.0 a.src.now i c.loop-i-test.true in
-    omega (arith, underway_room (a.tag ∷ take (i + a.n - i) (drop i a.src.now)) _ c.loop-i.invariant.0 turn)
+    let next = c.in-Some.ensures.steps.1 in
+    let turn = tagged_front c.args.tag c.args.n c.requires.0 _ _ _ next.0 (next.1 ∙ c.loop-part.invariant.1) in
+    omega (arith, underway_room (c.args.tag ∷ c.in-Some.part.now) _ c.loop-part.invariant.0 turn)
 
-pub loop-i-preserved : goal.loop-i-preserved
-loop-i-preserved c =
-    let inv = c.loop-i.invariant in
-    let turn = tagged_at c.args.tag c.args.n c.requires.0 c.args.src.now c.loop-i.i c.loop-i-test.true in
-    (underway_step _ inv.0 turn c.put_record-o.ensures, c.put_record-o.auto.d ∙ inv.1, omega arith)
+pub loop-part-preserved : goal.loop-part-preserved
+loop-part-preserved c =
+    let steps = c.in-Some.ensures.steps in
+    let turn = tagged_front c.args.tag c.args.n c.requires.0 _ _ _ steps.1.0 (steps.1.1 ∙ c.loop-part.invariant.1) in
+    (underway_step _ c.loop-part.invariant.0 turn c.put_record-o.ensures, steps.0 ∙ c.loop-part.invariant.1)
 
 pub returns : goal.returns
-returns c = underway_done c.loop-i.invariant.0 (tagged_at_end _ _ c.requires.0 c.args.src.now c.loop-i.i c.loop-i-test.false)
+returns c =
+    let short = c.in-None.ensures.steps.1.0 in
+    underway_done c.loop-part.invariant.0 (tagged_end c.args.tag c.args.n c.requires.0 _ (omega (arith, short, c.loop-part.invariant.1)))

@@ -6,8 +6,8 @@ use Rattle.chunk.specs.Chunk.{items_from}
 use Rattle.form.specs.FirstBad.{bad_from, first_bad}
 use Rattle.form.proofs.judge.first_bad.Given as goal
 
-abbrev pub invariant-loop-id : goal.invariant-loop-id
-invariant-loop-id l = bad_from l.came (items_from l.form l.at) ≡ first_bad (items_from l.form 12)
+abbrev pub invariant-loop-chunk : goal.invariant-loop-chunk
+invariant-loop-chunk l = bad_from l.came (items_from l.form l.at) ≡ first_bad (items_from l.form 12)
 
-abbrev pub decreases-loop-id : goal.decreases-loop-id
-decreases-loop-id l = length l.form - l.at
+abbrev pub decreases-loop-chunk : goal.decreases-loop-chunk
+decreases-loop-chunk l = length l.form - l.at

@@ -6,8 +6,8 @@ use Rattle.chunk.specs.Chunk.{items_from}
 use Rattle.form.specs.Find.{place_from, first_place}
 use Rattle.form.proofs.place.find.Given as goal
 
-abbrev pub invariant-loop-name : goal.invariant-loop-name
-invariant-loop-name l = place_from l.at l.id (items_from l.form l.at) ≡ first_place l.form l.id
+abbrev pub invariant-loop-chunk : goal.invariant-loop-chunk
+invariant-loop-chunk l = place_from l.at l.id (items_from l.form l.at) ≡ first_place l.form l.id
 
-abbrev pub decreases-loop-name : goal.decreases-loop-name
-decreases-loop-name l = length l.form - l.at
+abbrev pub decreases-loop-chunk : goal.decreases-loop-chunk
+decreases-loop-chunk l = length l.form - l.at

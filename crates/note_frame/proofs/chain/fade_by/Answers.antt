@@ -6,6 +6,7 @@ use mir.Facts.{to_z-of_z}
 use Rattle.laws.proofs.Signed.{back}
 use Rattle.note_frame.specs.Gains.{faded_with}
 use Rattle.note_frame.proofs.chain.fade_by.Goals as goal
+use Rattle.note_frame.proofs.chain.fade_by.Goals.{else-g-via-then-g+else-g-q, else-g-via-else-g}
 
 pub returns-then-g-q : goal.returns-then-g-q
 unfolding faded_with
@@ -14,11 +15,10 @@ returns-then-g-q c =
     ∙ c.scaled.ensures
     ∙ rw (c.if-g.true, le-leb c.args.g.fade_start c.args.q c.if-g-q.true, to_z-of_z c.ranges.x)
 
-pub returns-else-g-q : goal.returns-else-g-q
+pub returns : goal.returns
 unfolding faded_with
-returns-else-g-q c =
-    rw (c.if-g.true, lt-leb c.args.g.fade_start c.args.q c.if-g-q.false) (to_z-of_z c.ranges.x)
-
-pub returns-else-g : goal.returns-else-g
-unfolding faded_with
-returns-else-g c = rw c.if-g.false (to_z-of_z c.ranges.x)
+returns c =
+    elim c.else-g.branch [
+      | else-g-via-then-g+else-g-q w ↦ rw (w.if-g.true, lt-leb c.args.g.fade_start c.args.q w.if-g-q.false) (to_z-of_z c.ranges.x)
+      | else-g-via-else-g w ↦ rw w.if-g.false (to_z-of_z c.ranges.x)
+    ]

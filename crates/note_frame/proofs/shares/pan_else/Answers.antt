@@ -10,10 +10,10 @@ use Rattle.small_chunks.proofs.PanLaws.{held_le}
 use Rattle.note_frame.proofs.shares.pan_else.Goals as goal
 
 -- a signed field goes to the callee as its bits, read back
-said : (c : goal.After-held_to_unity-left) → c.held_to_unity-left.result ≡ held_to_unity c.in-Panned.p.position
+said : (c : goal.After-held_to_unity-left) → c.held_to_unity-left.result ≡ held_to_unity c.in-Some.p.position
 said c =
-    let position_fits : SFits w32 c.in-Panned.p.position = search rules in
+    let position_fits : SFits w32 c.in-Some.p.position = search rules in
     c.held_to_unity-left.ensures ∙ ap held_to_unity (to_z-of_z position_fits)
 
 pub overflow_sub-right : goal.overflow_sub-right
-overflow_sub-right c = omega (arith, said c, held_le c.in-Panned.p.position)
+overflow_sub-right c = omega (arith, said c, held_le c.in-Some.p.position)

@@ -9,16 +9,16 @@ use Rattle.header.specs.Octaves.{hi}
 use Rattle.header.specs.declared.voice_header.VoiceHeader.{VoiceHeader}
 use Rattle.sheet.specs.Read.{read_sheet}
 use Rattle.sheet.specs.Voice.{Voice}
-use Rattle.sheet_layout.specs.Answers.{fade_answer, sequence_answer}
 use Rattle.sheet_layout.specs.Members.{segments_in}
-use Rattle.sheet_layout.specs.declared.MaybeFade.{MaybeFade}
-use Rattle.sheet_layout.specs.declared.MaybeSequence.{MaybeSequence}
 use Rattle.note_path.specs.Path.{segments_of, all_valid}
-use Rattle.note_rules.specs.Answers.{beside_one_shot_by, count_by, fade_misses_by}
+use Rattle.note_rules.specs.Answers.{beside_one_shot_by, fade_misses_by}
+use Rattle.std.specs.Option.{unwrap_or}
 use Rattle.note_rules.specs.Rules.{beside_one_shot, fade_misses, sequence_rules}
 use Rattle.refusal.proofs.RuleLaws.{Passed, first_here, first_later, first_none}
 use Rattle.note_rules.proofs.SequenceLaws.{part_order, part_within, part_whole, part_segments, beside_is, count_is, miss_is}
 use Rattle.note_rules.proofs.sequence.sequence_refusal.Goals as goal
+use Rattle.small_chunks.specs.declared.sequence.Fade.{Fade}
+use Rattle.std.specs.Prelude.{Option, option_map}
 
 -- what the code has read is the voice's
 module _ (v : Voice) where
@@ -28,17 +28,17 @@ module _ (v : Voice) where
   valid part is segments samples_are header = sym (is ∙ ap₂ all_valid segments (samples_are ∙ ap hi header))
 
   -- whether it is beside a one-shot part
-  beside : {h : VoiceHeader} {sequence : MaybeSequence} {r : Bool} → r ≡ beside_one_shot_by sequence h.one_shot_hi_samples → sequence ≡ sequence_answer v.sequence
+  beside : {h : VoiceHeader} {sequence : Option ℕ} {r : Bool} → r ≡ beside_one_shot_by sequence h.one_shot_hi_samples → sequence ≡ option_map length v.sequence
       → h ≡ v.header → beside_one_shot v.sequence v.header.one_shot_hi_samples ≡ r
   beside is answered header =
       sym (is ∙ ap₂ beside_one_shot_by answered (ap (λ h. h.one_shot_hi_samples) header) ∙ beside_is v.sequence v.header.one_shot_hi_samples)
 
   -- whether the fade misses the segments
-  misses : {fade : MaybeFade} {sequence : MaybeSequence} {count : ℕ} {r : Bool} → r ≡ fade_misses_by fade count → fade ≡ fade_answer v.fade
-      → count ≡ count_by sequence → sequence ≡ sequence_answer v.sequence → fade_misses v.fade (length (segments_of v.sequence)) ≡ r
+  misses : {fade : Option Fade} {sequence : Option ℕ} {count : ℕ} {r : Bool} → r ≡ fade_misses_by fade count → fade ≡ v.fade
+      → count ≡ unwrap_or sequence 0 → sequence ≡ option_map length v.sequence → fade_misses v.fade (length (segments_of v.sequence)) ≡ r
   misses is answered counted sequence_answered =
       sym (
-      is ∙ ap₂ fade_misses_by answered (counted ∙ ap count_by sequence_answered ∙ count_is v.sequence)
+      is ∙ ap₂ fade_misses_by answered (counted ∙ ap (λ (o : Option ℕ). unwrap_or o 0) sequence_answered ∙ count_is v.sequence)
       ∙ miss_is v.fade (length (segments_of v.sequence))
       )
 
@@ -88,7 +88,7 @@ returns-then-fade_misses c =
     let segments = part_segments c.args.sheet.now c.type_inv.sheet c.requires.0 c.args.l c.requires.1 in
     let all = valid v _ c.sequence_valid.ensures segments c.hi_octave_samples.ensures c.sheet_header-h.ensures in
     let shared = beside v c.beside_one_shot.ensures c.sheet_sequence-sequence.ensures c.sheet_header-h.ensures in
-    let missed = misses v c.fade_misses.ensures c.sheet_fade.ensures c.segment_count.ensures c.sheet_sequence-again.ensures in
+    let missed = misses v c.fade_misses.ensures c.sheet_fade.ensures c.unwrap_or.ensures c.sheet_sequence-sequence.ensures in
     sym (
     beside_passed v (all ∙ c.if-not-sequence_valid.false) (shared ∙ c.if-beside_one_shot.false)
     ∙ first_here _ _ (missed ∙ c.if-fade_misses.true)
@@ -100,7 +100,7 @@ returns c =
     let segments = part_segments c.args.sheet.now c.type_inv.sheet c.requires.0 c.args.l c.requires.1 in
     let all = valid v _ c.sequence_valid.ensures segments c.hi_octave_samples.ensures c.sheet_header-h.ensures in
     let shared = beside v c.beside_one_shot.ensures c.sheet_sequence-sequence.ensures c.sheet_header-h.ensures in
-    let missed = misses v c.fade_misses.ensures c.sheet_fade.ensures c.segment_count.ensures c.sheet_sequence-again.ensures in
+    let missed = misses v c.fade_misses.ensures c.sheet_fade.ensures c.unwrap_or.ensures c.sheet_sequence-sequence.ensures in
     sym (
     misses_passed v (all ∙ c.if-not-sequence_valid.false) (shared ∙ c.if-beside_one_shot.false) (missed ∙ c.if-fade_misses.false)
     ∙ first_none

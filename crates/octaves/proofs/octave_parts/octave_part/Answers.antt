@@ -6,8 +6,9 @@ use native.Mathlib.Nat.{mul-le-mul}
 use native.Mathlib.Omega.{arith}
 use lib.Dec.{lit<}
 use lib.Pow.{pow_mono, shl_exact}
+use Rattle.std.specs.Prelude.{Option, Some}
 use Rattle.header.specs.Octaves.{hi, octaves}
-use Rattle.octaves.specs.declared.part.Part.TheVariants.{At}
+use Rattle.octaves.specs.declared.part.Part.{Part}
 use Rattle.octaves.proofs.PartLaws.{octave_whole, octave_sole, octave_past, octave_short, octave_at, octave_fits, octave_exceeds}
 use Rattle.octaves.proofs.octave_parts.octave_part.Goals as goal
 use Rattle.octaves.proofs.octave_parts.octave_part.Goals.{then-h-k+else-k-ge1, else-h-k}
@@ -46,6 +47,10 @@ returns-then-samples-through c =
     let ends = octave_exceeds a.h a.samples a.k c.hi_octave_samples-hi.result _ is_hi (shifted a.k (omega arith)) c.if-samples-through.true in
     sym (octave_short a.h a.samples a.k (λ z. c.if-hi-eq0.false (is_hi ∙ z)) ends)
 
+-- where an octave of m times l samples lies, after the m × (l - 1) of the octaves before it
+abbrev place : ℕ → ℕ → Option Part
+place m l = Some (record { start = m * (l - 1); length = m * l })
+
 pub returns : goal.returns
 returns c =
     let a = c.args in
@@ -54,5 +59,5 @@ returns c =
     let below : a.k < octaves a.h = elim c.if-h-k.branch [ then-h-k+else-k-ge1 w ↦ omega arith | else-h-k w ↦ omega arith ] in
     -- the octave ends within the samples
     let fits = octave_fits a.h a.samples a.k c.hi_octave_samples-hi.result _ is_hi length_is c.if-samples-through.false in
-    ap₂ At (ap₂ (λ (x y : ℕ). x * (y - 1)) is_hi length_is) (ap₂ (λ (x y : ℕ). x * y) is_hi length_is)
+    ap₂ place is_hi length_is
     ∙ sym (octave_at a.h a.samples a.k (λ z. c.if-hi-eq0.false (is_hi ∙ z)) below fits)

@@ -1,12 +1,8 @@
--- `samples::loudness::largest_magnitude` meets its contract: after i turns `best` is the largest magnitude of the first i samples.
+-- `samples::loudness::largest_magnitude` meets its contract: on its way `best` is the largest magnitude of the samples that it has passed.
 use mathlib.Core.Path.{◌≡◌}
-use Prim.Native.Nat.{◌-◌, ◌≤◌}
-use lib.ListN.{length, take}
+use lib.ListN.{take}
 use Rattle.samples.specs.Peak.{loudest}
 use Rattle.samples.proofs.loudness.largest_magnitude.Given as goal
 
-abbrev pub invariant-loop-i : goal.invariant-loop-i
-invariant-loop-i l = (l.i ≤ length l.samples) × (l.best ≡ loudest (take l.i l.samples))
-
-abbrev pub decreases-loop-i : goal.decreases-loop-i
-decreases-loop-i l = length l.samples - l.i
+abbrev pub invariant-loop-s : goal.invariant-loop-s
+invariant-loop-s l = l.best ≡ loudest (take l.s-index l.samples)

@@ -24,9 +24,9 @@ pub returns-then-value-eq0 : goal.returns-then-value-eq0
 unfolding value_wrong
 returns-then-value-eq0 c = rw (c.if-kind-eq10.true, c.if-value-eq0.true)
 
-pub returns-then-kind-eq10 : goal.returns-then-kind-eq10
+pub returns-else-value-eq0 : goal.returns-else-value-eq0
 unfolding value_wrong
-returns-then-kind-eq10 c = let v = c.args.value in let h : 0 < v = omega arith in rw (c.if-kind-eq10.true, lt-ltb 0 v h) (above_five v)
+returns-else-value-eq0 c = let v = c.args.value in let h : 0 < v = omega arith in rw (c.if-kind-eq10.true, lt-ltb 0 v h) (above_five v)
 
 pub returns : goal.returns
 unfolding value_wrong

@@ -9,8 +9,8 @@ use Rattle.sheet.specs.Record.{records}
 use Rattle.sheet.specs.TextState.{text_state_of}
 use Rattle.sheet.proofs.judge.judge_sheet.Given as goal
 
-abbrev pub invariant-loop-kind : goal.invariant-loop-kind
-invariant-loop-kind l = judged_from l.group (text_state_of l.texts) (records (drop l.at l.sheet)) ≡ judged l.sheet
+abbrev pub invariant-loop-record : goal.invariant-loop-record
+invariant-loop-record l = judged_from l.group (text_state_of l.texts) (records (drop l.at l.sheet)) ≡ judged l.sheet
 
-abbrev pub decreases-loop-kind : goal.decreases-loop-kind
-decreases-loop-kind l = length l.sheet - l.at
+abbrev pub decreases-loop-record : goal.decreases-loop-record
+decreases-loop-record l = length l.sheet - l.at

@@ -9,27 +9,27 @@ use Rattle.sheet_read.proofs.part.put_channel.Goals as goal
 
 -- `w` says where the chunk lies
 pub overflow_add-end : goal.overflow_add-end
-overflow_add-end c = let w = rw c.in-At.is at (found _ _ _ c.find.ensures) in omega (arith, w.inside)
+overflow_add-end c = let w = rw c.in-Some.is at (found _ _ _ c.find.ensures) in omega (arith, w.inside)
 
 pub slice_bounds-parse-end : goal.slice_bounds-parse-end
-slice_bounds-parse-end c = (rw c.in-At.is at (found _ _ _ c.find.ensures)).inside
+slice_bounds-parse-end c = (rw c.in-Some.is at (found _ _ _ c.find.ensures)).inside
 
-pub returns-in-Absent : goal.returns-in-Absent
-returns-in-Absent c = rw (← rw c.in-Absent.is at (found _ _ _ c.find.ensures).is) (put_none _ _)
+pub returns-in_default : goal.returns-in_default
+returns-in_default c = rw (← rw c.in_default.is at (found _ _ _ c.find.ensures).is) (put_none _ _)
 
 -- `part_is` is the part, by what is parsed
-pub returns-in-Refused : goal.returns-in-Refused
-returns-in-Refused c =
-    let g = c.in-At in
-    let w = rw g.is at (found _ _ _ c.find.ensures) in
+pub returns-in_default-parse : goal.returns-in_default-parse
+returns-in_default-parse c =
+    let g = c.in-Some.place in
+    let w = rw c.in-Some.is at (found _ _ _ c.find.ensures) in
     let e : g.start + g.size - g.start ≡ g.size = omega arith in
     let part_is = channel_at_lem w c.requires.0 _ (rw e at c.parse.ensures) in
-    rw (part_is, c.in-Refused.is) (put_none _ _)
+    rw (part_is, c.in_default-parse.is) (put_none _ _)
 
-pub returns-in-Parsed : goal.returns-in-Parsed
-returns-in-Parsed c =
-    let g = c.in-At in
-    let w = rw g.is at (found _ _ _ c.find.ensures) in
+pub returns : goal.returns
+returns c =
+    let g = c.in-Some.place in
+    let w = rw c.in-Some.is at (found _ _ _ c.find.ensures) in
     let e : g.start + g.size - g.start ≡ g.size = omega arith in
     let part_is = channel_at_lem w c.requires.0 _ (rw e at c.parse.ensures) in
-    rw (part_is, c.in-Parsed.is) c.put_channel.ensures
+    rw (part_is, c.in-Ok.is) c.put_channel.ensures

@@ -8,8 +8,8 @@ use Rattle.chunk.specs.Chunk.{items_from}
 use Rattle.sheet_read.specs.Parts.{envelope_part}
 use Rattle.sheet_read.proofs.part.put_envelopes.Given as goal
 
-abbrev pub invariant-loop-name : goal.invariant-loop-name
-invariant-loop-name l = Underway l.initial.d l.at (envelope_part l.id l.kind (items_from l.form 12)) l.d l.o (envelope_part l.id l.kind (items_from l.form l.p)) × (length l.d ≡ length l.initial.d)
+abbrev pub invariant-loop-chunk : goal.invariant-loop-chunk
+invariant-loop-chunk l = Underway l.initial.d l.at (envelope_part l.id l.kind (items_from l.form 12)) l.d l.o (envelope_part l.id l.kind (items_from l.form l.p)) × (length l.d ≡ length l.initial.d)
 
-abbrev pub decreases-loop-name : goal.decreases-loop-name
-decreases-loop-name l = length l.form - l.p
+abbrev pub decreases-loop-chunk : goal.decreases-loop-chunk
+decreases-loop-chunk l = length l.form - l.p

@@ -1,5 +1,4 @@
 -- `sheet_read::text_chunk::put_text` meets its contract: nothing where there is no key or cleaning leaves nothing, else the text's records.
-use Prim.Native.Nat.{ℕ}
 use lib.ListN.{length, drop_of_length-le}
 use mathlib.Core.List.{[]}
 use mathlib.Core.Path.{◌≡◌, ap}

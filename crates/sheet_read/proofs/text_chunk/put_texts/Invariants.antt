@@ -8,8 +8,8 @@ use Rattle.chunk.specs.Chunk.{items_from}
 use Rattle.sheet_read.specs.Parts.{text_part}
 use Rattle.sheet_read.proofs.text_chunk.put_texts.Given as goal
 
-abbrev pub invariant-loop-id : goal.invariant-loop-id
-invariant-loop-id l = Underway l.initial.d l.at (text_part (items_from l.form 12)) l.d l.o (text_part (items_from l.form l.p)) × (length l.d ≡ length l.initial.d)
+abbrev pub invariant-loop-chunk : goal.invariant-loop-chunk
+invariant-loop-chunk l = Underway l.initial.d l.at (text_part (items_from l.form 12)) l.d l.o (text_part (items_from l.form l.p)) × (length l.d ≡ length l.initial.d)
 
-abbrev pub decreases-loop-id : goal.decreases-loop-id
-decreases-loop-id l = length l.form - l.p
+abbrev pub decreases-loop-chunk : goal.decreases-loop-chunk
+decreases-loop-chunk l = length l.form - l.p

@@ -1,32 +1,31 @@
 -- The record in hand is a member, or none is there, and what the laws of MemberLaws make of it.
 use lib.ListN.{length}
-use mathlib.Core.Path.{sym, ap, ◌∙◌}
+use mathlib.Core.Path.{ap}
 use native.Mathlib.Omega.{arith}
-use Rattle.sheet.proofs.RecordLaws.{is_record}
 use Rattle.sheet_write.proofs.MemberLaws.{none_stopped, member_more, member_none}
-use Rattle.sheet_write.proofs.StopLaws.{stopped, other_tags}
+use Rattle.sheet_write.proofs.StopLaws.{in_hand, stopped}
 use Rattle.sheet_write.proofs.group.member_count.Goals as goal
 
-pub returns-in_default : goal.returns-in_default
-returns-in_default c =
-    let end = stopped _ _ _ c.record_at.ensures (other_tags _ c.in_default.not-Record) in
-    omega (arith, c.loop-kind.invariant.0, ap length (none_stopped c.args.member end))
+pub returns : goal.returns
+returns c =
+    let end = stopped _ _ _ c.record_at.ensures c.unwrap_or.ensures c.in_default.is in
+    omega (arith, c.loop-record.invariant.0, ap length (none_stopped c.args.member end))
 
-pub returns-then-kind-member : goal.returns-then-kind-member
-returns-then-kind-member c =
-    let w = is_record _ _ _ _ _ (sym c.record_at.ensures ∙ c.in-Record.is) in
-    omega (arith, c.loop-kind.invariant.0, ap length (member_none _ w c.if-kind-member.true))
+pub returns-then-record-member : goal.returns-then-record-member
+returns-then-record-member c =
+    let w = in_hand c.record_at.ensures c.unwrap_or.ensures c.in-Some.is in
+    omega (arith, c.loop-record.invariant.0, ap length (member_none _ w c.if-record-member.true))
 
 pub overflow_add-m : goal.overflow_add-m
 overflow_add-m c =
-    let w = is_record _ _ _ _ _ (sym c.record_at.ensures ∙ c.in-Record.is) in
-    omega (arith, c.loop-kind.invariant.1)
+    let w = in_hand c.record_at.ensures c.unwrap_or.ensures c.in-Some.is in
+    omega (arith, c.loop-record.invariant.1)
 
-pub loop-kind-smaller : goal.loop-kind-smaller
-loop-kind-smaller c = let w = is_record _ _ _ _ _ (sym c.record_at.ensures ∙ c.in-Record.is) in omega arith
+pub loop-record-smaller : goal.loop-record-smaller
+loop-record-smaller c = let w = in_hand c.record_at.ensures c.unwrap_or.ensures c.in-Some.is in omega arith
 
-pub loop-kind-preserved : goal.loop-kind-preserved
-loop-kind-preserved c =
-    let w = is_record _ _ _ _ _ (sym c.record_at.ensures ∙ c.in-Record.is) in
-    let inv = c.loop-kind.invariant in
-    (omega (arith, inv.0, ap length (member_more _ w c.if-kind-member.false)), omega (arith, inv.1))
+pub loop-record-preserved : goal.loop-record-preserved
+loop-record-preserved c =
+    let w = in_hand c.record_at.ensures c.unwrap_or.ensures c.in-Some.is in
+    let inv = c.loop-record.invariant in
+    (omega (arith, inv.0, ap length (member_more _ w c.if-record-member.false)), omega (arith, inv.1))

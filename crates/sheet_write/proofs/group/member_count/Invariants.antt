@@ -6,8 +6,8 @@ use Rattle.sheet.specs.Read.{leading}
 use Rattle.sheet.specs.Record.{records}
 use Rattle.sheet_write.proofs.group.member_count.Given as goal
 
-abbrev pub invariant-loop-kind : goal.invariant-loop-kind
-invariant-loop-kind l = (l.m + length (leading l.member (records (drop l.p l.sheet))) ≡ length (leading l.member (records (drop l.from l.sheet)))) × (l.m ≤ l.p)
+abbrev pub invariant-loop-record : goal.invariant-loop-record
+invariant-loop-record l = (l.m + length (leading l.member (records (drop l.p l.sheet))) ≡ length (leading l.member (records (drop l.from l.sheet)))) × (l.m ≤ l.p)
 
-abbrev pub decreases-loop-kind : goal.decreases-loop-kind
-decreases-loop-kind l = length l.sheet - l.p
+abbrev pub decreases-loop-record : goal.decreases-loop-record
+decreases-loop-record l = length l.sheet - l.p

@@ -1,13 +1,6 @@
--- The front of the length that `zero_place` finds.
-use lib.Seq.{length-take-le}
-use mathlib.Core.Path.{sym}
-use Rattle.text.proofs.PlaceLaws.{before_zero_part, before_zero_le}
+-- The front up to the place that `first_zero` finds, or the whole.
+use Rattle.text.proofs.PlaceLaws.{first_zero_or_end, before_zero_part}
 use Rattle.text.proofs.part.cut_at_zero.Goals as goal
 
-pub slice_bounds-result-end : goal.slice_bounds-result-end
-slice_bounds-result-end c =
-    let s = c.args.s.now in
-    sym (length-take-le _ s (rw c.zero_place-end.ensures (before_zero_le s)))
-
 pub returns-clause-contents : goal.returns-clause-contents
-returns-clause-contents c = rw c.zero_place-end.ensures (before_zero_part _)
+returns-clause-contents c = rw (c.unwrap_or-end.ensures, c.first_zero.ensures, first_zero_or_end) (before_zero_part _)

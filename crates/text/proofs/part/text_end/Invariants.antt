@@ -6,8 +6,8 @@ use Rattle.text.specs.Place.{text_end}
 use Rattle.text_utf8.specs.Step.{subsequences_from}
 use Rattle.text.proofs.part.text_end.Given as goal
 
-abbrev pub invariant-loop-next : goal.invariant-loop-next
-invariant-loop-next l = (text_end l.end l.at (subsequences_from l.s l.at) ≡ text_end l.from l.from (subsequences_from l.s l.from)) × (l.from ≤ l.end) × (l.end ≤ l.at) × (l.at ≤ length l.s)
+abbrev pub invariant-loop-part : goal.invariant-loop-part
+invariant-loop-part l = (text_end l.end l.at (subsequences_from l.s l.at) ≡ text_end l.from l.from (subsequences_from l.s l.from)) × (l.from ≤ l.end) × (l.end ≤ l.at) × (l.at ≤ length l.s)
 
-abbrev pub decreases-loop-next : goal.decreases-loop-next
-decreases-loop-next l = length l.s - l.at
+abbrev pub decreases-loop-part : goal.decreases-loop-part
+decreases-loop-part l = length l.s - l.at

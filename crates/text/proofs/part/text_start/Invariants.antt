@@ -7,8 +7,8 @@ use Rattle.text_utf8.specs.Step.{subsequences_from}
 use Rattle.text_utf8.specs.Utf8.{subsequences}
 use Rattle.text.proofs.part.text_start.Given as goal
 
-abbrev pub invariant-loop-next : goal.invariant-loop-next
-invariant-loop-next l = (trim_start (subsequences_from l.s l.at) ≡ trim_start (subsequences l.s)) × (l.at ≤ length l.s)
+abbrev pub invariant-loop-part : goal.invariant-loop-part
+invariant-loop-part l = (trim_start (subsequences_from l.s l.at) ≡ trim_start (subsequences l.s)) × (l.at ≤ length l.s)
 
-abbrev pub decreases-loop-next : goal.decreases-loop-next
-decreases-loop-next l = length l.s - l.at
+abbrev pub decreases-loop-part : goal.decreases-loop-part
+decreases-loop-part l = length l.s - l.at

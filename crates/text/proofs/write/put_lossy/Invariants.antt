@@ -7,8 +7,8 @@ use Rattle.text.specs.TextRecords.{text_records}
 use Rattle.text_utf8.specs.Utf8.{lossy}
 use Rattle.text.proofs.write.put_lossy.Given as goal
 
-abbrev pub invariant-loop-next : goal.invariant-loop-next
-invariant-loop-next l = Underway l.initial.d l.at (text_records (lossy l.s)) l.d l.o (text_records (lossy (drop l.i l.s))) × (length l.d ≡ length l.initial.d)
+abbrev pub invariant-loop-part : goal.invariant-loop-part
+invariant-loop-part l = Underway l.initial.d l.at (text_records (lossy l.s)) l.d l.o (text_records (lossy (drop l.i l.s))) × (length l.d ≡ length l.initial.d)
 
-abbrev pub decreases-loop-next : goal.decreases-loop-next
-decreases-loop-next l = length l.s - l.i
+abbrev pub decreases-loop-part : goal.decreases-loop-part
+decreases-loop-part l = length l.s - l.i

@@ -6,8 +6,8 @@ use Rattle.text_utf8.specs.Step.{subsequences_from}
 use Rattle.text_utf8.specs.Utf8.{all_well_formed, well_formed}
 use Rattle.text_utf8.proofs.step.well_formed.Given as goal
 
-abbrev pub invariant-loop-next : goal.invariant-loop-next
-invariant-loop-next l = all_well_formed (subsequences_from l.s l.at) ≡ well_formed l.s
+abbrev pub invariant-loop-part : goal.invariant-loop-part
+invariant-loop-part l = all_well_formed (subsequences_from l.s l.at) ≡ well_formed l.s
 
-abbrev pub decreases-loop-next : goal.decreases-loop-next
-decreases-loop-next l = length l.s - l.at
+abbrev pub decreases-loop-part : goal.decreases-loop-part
+decreases-loop-part l = length l.s - l.at

@@ -2,12 +2,11 @@
 use mathlib.Core.Path.{◌≡◌}
 use Prim.Native.Nat.{◌-◌, ◌≤◌}
 use lib.ListN.{length}
-use Rattle.vault.specs.Helpers.{octave_by}
 use Rattle.vault.proofs.ChannelLaws.{Reached}
 use Rattle.vault.proofs.channel.convert_octaves.Given as goal
 
 abbrev pub invariant-loop-at : goal.invariant-loop-at
-invariant-loop-at l = (l.at ≤ l.n) × (length l.out ≡ length l.initial.out) × Reached (octave_by l.direction) l.h l.channel l.initial.out l.out l.at
+invariant-loop-at g l = (l.at ≤ l.n) × (length l.out ≡ length l.initial.out) × Reached g.C.Conversion.converted l.h l.channel l.initial.out l.out l.at
 
 abbrev pub decreases-loop-at : goal.decreases-loop-at
-decreases-loop-at l = l.n - l.at
+decreases-loop-at g l = l.n - l.at

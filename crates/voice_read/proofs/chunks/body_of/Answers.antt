@@ -8,17 +8,17 @@ use Rattle.voice_read.proofs.chunks.body_of.Goals as goal
 
 -- `w` says where the chunk lies
 pub overflow_add-end : goal.overflow_add-end
-overflow_add-end c = let w = rw c.in-At.is at (found _ _ _ c.find.ensures) in omega (arith, w.inside)
+overflow_add-end c = let w = rw c.in-Some.is at (found _ _ _ c.find.ensures) in omega (arith, w.inside)
 
-pub slice_bounds-result-end-in-At : goal.slice_bounds-result-end-in-At
-slice_bounds-result-end-in-At c = (rw c.in-At.is at (found _ _ _ c.find.ensures)).inside
+pub slice_bounds-result-end-2 : goal.slice_bounds-result-end-2
+slice_bounds-result-end-2 c = (rw c.in-Some.is at (found _ _ _ c.find.ensures)).inside
 
-pub returns-in-Absent : goal.returns-in-Absent
-returns-in-Absent c = ap body_of (rw c.in-Absent.is at (found _ _ _ c.find.ensures).is)
+pub returns-in_default : goal.returns-in_default
+returns-in_default c = ap body_of (rw c.in_default.is at (found _ _ _ c.find.ensures).is)
 
-pub returns-in-At : goal.returns-in-At
-returns-in-At c =
-    let g = c.in-At in
-    let w = rw g.is at (found _ _ _ c.find.ensures) in
-    let e : g.start + g.size - g.start ≡ g.size = omega arith in
+pub returns : goal.returns
+returns c =
+    let p = c.in-Some.place in
+    let w = rw c.in-Some.is at (found _ _ _ c.find.ensures) in
+    let e : p.start + p.size - p.start ≡ p.size = omega arith in
     rw e (ap body_of w.is)

@@ -8,14 +8,14 @@ use Rattle.voice_read.proofs.chunks.header_of.Goals as goal
 -- `w` says where the chunk lies
 pub read_header-requires : goal.read_header-requires
 read_header-requires c =
-    let w = rw c.in-At.is at (found _ _ _ c.find.ensures) in
+    let w = rw c.in-Some.is at (found _ _ _ c.find.ensures) in
     omega (arith, w.inside, header_long w c.requires.sound)
 
-pub returns-in-At : goal.returns-in-At
-returns-in-At c =
-    let w = rw c.in-At.is at (found _ _ _ c.find.ensures) in
+pub returns-in-Some : goal.returns-in-Some
+returns-in-Some c =
+    let w = rw c.in-Some.is at (found _ _ _ c.find.ensures) in
     c.read_header.ensures ∙ header_at w c.requires.sound
 
-pub returns-in-Absent : goal.returns-in-Absent
-returns-in-Absent c =
-    absurd (header_there (rw c.in-Absent.is at (found _ _ _ c.find.ensures)) c.requires)
+pub returns-in-None : goal.returns-in-None
+returns-in-None c =
+    absurd (header_there (rw c.in-None.is at (found _ _ _ c.find.ensures)) c.requires)

@@ -9,13 +9,13 @@ use Rattle.voice_read.proofs.chunks.is_stereo.Goals as goal
 -- `w` says where the chunk lies
 pub read32-requires : goal.read32-requires
 read32-requires c =
-    let w = rw c.in-At.is at (found _ _ _ c.find.ensures) in
+    let w = rw c.in-Some.is at (found _ _ _ c.find.ensures) in
     omega (arith, w.inside, channel_long w c.requires)
 
-pub returns-in-Absent : goal.returns-in-Absent
-returns-in-Absent c = stereo_none (rw c.in-Absent.is at (found _ _ _ c.find.ensures))
+pub returns-in_default : goal.returns-in_default
+returns-in_default c = stereo_none (rw c.in_default.is at (found _ _ _ c.find.ensures))
 
-pub returns-in-At : goal.returns-in-At
-returns-in-At c =
-    let w = rw c.in-At.is at (found _ _ _ c.find.ensures) in
+pub returns : goal.returns
+returns c =
+    let w = rw c.in-Some.is at (found _ _ _ c.find.ensures) in
     ap (λ v. eqb v 6) c.read32.ensures ∙ stereo_at w c.requires

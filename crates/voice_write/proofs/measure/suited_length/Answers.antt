@@ -3,14 +3,14 @@ use mathlib.Core.Path.{◌≡◌, sym, ap, ◌∙◌}
 use Prim.Native.Nat.{◌+◌, ◌%◌}
 use lib.ListN.{length}
 use native.Mathlib.Omega.{arith}
-use Rattle.refusal.specs.Outcome.{length_of}
 use Rattle.body_write.specs.BodyBytes.{body_bytes}
 use Rattle.sheet_layout.proofs.SoundLaws.{sound_flat}
-use Rattle.refusal.specs.declared.Output.TheVariants.{Length}
 use Rattle.sheet.specs.Read.{read_sheet}
 use Rattle.voice_write.specs.WriteVoice.{contents}
 use Rattle.voice_write.proofs.WriteLaws.{sides_of, contents_length, file_length, flat_within, left_bound, right_within, held_fits, held_long}
 use Rattle.voice_write.proofs.measure.suited_length.Goals as goal
+use Rattle.refusal.specs.Outcome.{length_of}
+use Rattle.std.specs.Prelude.{Ok}
 
 pub returns-then-sheet-ge-TOO_LONG : goal.returns-then-sheet-ge-TOO_LONG
 returns-then-sheet-ge-TOO_LONG c =
@@ -54,4 +54,4 @@ returns c =
     let body = ap (λ b. length (body_bytes a.c b a.left.now a.right.now)) c.sheet_stereo.ensures in
     let held : 12 + c.chunks_length-chunks.result + n + n % 2 ≡ length k =
     omega (arith, contents_length v a.c s, c.chunks_length-chunks.ensures.0, c.body_length-body.ensures.0, body) in
-    ap Length (omega (arith, held, file_length k)) ∙ sym (ap length_of (held_fits k (omega (arith, held, c.if-held-gt4294967295.false))))
+    ap Ok (omega (arith, held, file_length k)) ∙ sym (ap length_of (held_fits k (omega (arith, held, c.if-held-gt4294967295.false))))

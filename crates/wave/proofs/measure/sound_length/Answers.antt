@@ -2,6 +2,7 @@
 use Prim.Native.Nat.{◌*◌}
 use mathlib.Core.Path.{sym, ap, ap₂, ◌∙◌}
 use lib.ListN.{length}
+use Rattle.std.proofs.lemmas.Result.{err_from_is_err_and}
 use Rattle.refusal.specs.Outcome.{length_of}
 use Rattle.body_read.specs.Sides.{Sides}
 use Rattle.octaves.specs.Octave.{octave_part}
@@ -12,18 +13,20 @@ use Rattle.wave.specs.Wave.{channels_of}
 use Rattle.wave.proofs.WaveLaws.{wave_refused, wave_length}
 use Rattle.wave.proofs.measure.sound_length.Goals as goal
 
-pub returns-then-number-ne0 : goal.returns-then-number-ne0
-returns-then-number-ne0 c =
+pub returns-in_err-source_refusal : goal.returns-in_err-source_refusal
+returns-in_err-source_refusal c =
     let a = c.args in
     let s : Sides = record { left = a.left.now; right = a.right.now } in
-    sym (ap length_of (wave_refused (read_sheet a.sheet.now) s a.k _ c.if-number-ne0.true c.source_refusal-number.ensures))
+    let p = err_from_is_err_and c.from_residual.result c.from_residual.ensures.1 in
+    let stopped = sym c.source_refusal.ensures ∙ c.in_err-source_refusal.was in
+    rw (p.1, p.2) (sym (ap length_of (wave_refused (read_sheet a.sheet.now) s a.k _ stopped)))
 
 -- the samples that were counted are the octave's
 pub returns : goal.returns
 returns c =
     let a = c.args in
     let s : Sides = record { left = a.left.now; right = a.right.now } in
-    let none = sym c.source_refusal-number.ensures ∙ c.if-number-ne0.false in
+    let none = sym c.source_refusal.ensures ∙ c.in_ok-source_refusal.was in
     let counted = ap length (c.octave-samples.ensures.contents ∙ ap (λ h. part_of (octave_part h (length a.left.now) a.k) a.left.now) c.sheet_header-h.ensures) in
     c.held_length.ensures
     ∙ ap₂ (λ two n. length_for (channels_of two * n)) c.sheet_stereo.ensures counted

@@ -5,10 +5,10 @@ use mathlib.Core.Path.{◌≡◌, sym, ap, ◌∙◌}
 use native.Mathlib.Omega.{arith}
 use Rattle.header.specs.Octaves.{hi, octaves, total_samples}
 use Rattle.header.specs.declared.voice_header.VoiceHeader.{VoiceHeader}
-use Rattle.header.specs.declared.voice_header.Total.TheVariants.{Sum}
 use Rattle.header.proofs.OctaveLaws.{total_sum, total_large, total_none, many_octaves, ones_high, factor_pos, product, room, no_room}
 use Rattle.header.proofs.voice_header.VoiceHeader.total_samples_per_channel.Goals as goal
 use Rattle.header.proofs.voice_header.VoiceHeader.total_samples_per_channel.Goals.{then-self-eq0, else-self-eq0}
+use Rattle.std.specs.Prelude.{Ok}
 
 pub returns-then-hi-eq0 : goal.returns-then-hi-eq0
 returns-then-hi-eq0 c = sym (total_none c.args.self (sym c.hi_octave_samples-hi.ensures ∙ c.if-hi-eq0.true))
@@ -60,4 +60,4 @@ pub returns : goal.returns
 returns c =
     let is : c.if-self-eq0.octaves ≡ octaves c.args.self = elim c.if-self-eq0.branch [ then-self-eq0 w ↦ omega arith | else-self-eq0 w ↦ omega arith ] in
     let w = within c.args.self _ _ c.if-self-gt64.false c.hi_octave_samples-hi.ensures is c.if-factor-hi.false in
-    ap Sum w.is ∙ sym (total_sum _ w.fits)
+    ap Ok w.is ∙ sym (total_sum _ w.fits)

@@ -1,2 +1,0 @@
--- Laws of the voice's own rules.
-pub mod VoiceRuleLaws
