@@ -4,27 +4,34 @@ use std::io;
 use std::io::Read;
 use voice::decode_raw;
 
+// Reads until the buffer is full or the list ends; how many bytes it read.
+fn fill<R: Read>(input: &mut R, mut buffer: &mut [u8]) -> io::Result<usize> {
+    let most = buffer.len() as u64;
+    let n = io::copy(&mut input.by_ref().take(most), &mut buffer)?;
+    Ok(n as usize)
+}
+
 // The byte that says what the next case is; 0 at the end.
 pub fn kind<R: Read>(input: &mut R) -> io::Result<u8> {
     let mut byte = [0u8; 1];
-    input.read_exact(&mut byte)?;
+    fill(input, &mut byte)?;
     Ok(byte[0])
 }
 
 fn length<R: Read>(input: &mut R) -> io::Result<usize> {
     let mut bytes = [0u8; 4];
-    input.read_exact(&mut bytes)?;
+    fill(input, &mut bytes)?;
     Ok(u32::from_be_bytes(bytes) as usize)
 }
 
-// The next slice, at the front of a buffer. One that doesn't fit is taken for empty.
+// The next slice, at the front of a buffer, as much of it as the list has. One that doesn't fit is taken for empty.
 pub fn slice<'a, R: Read>(input: &mut R, buffer: &'a mut [u8]) -> io::Result<&'a [u8]> {
     let n = length(input)?;
     match buffer.get_mut(..n) {
         None => Ok(&[]),
         Some(slice) => {
-            input.read_exact(slice)?;
-            Ok(slice)
+            let got = fill(input, slice)?;
+            Ok(first(slice, got))
         }
     }
 }

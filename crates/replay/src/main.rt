@@ -9,26 +9,26 @@ mod read_case;
 mod write_case;
 
 use std::io;
-use std::io::{ErrorKind, Read};
+use std::io::Read;
 
-// A case, by the byte that says what it is.
-fn case<R: Read>(rt: &impl Print, input: &mut R, kind: u8) -> io::Result<()> {
-    match kind {
-        1 => read_case::run(rt, input, ""),
-        2 => write_case::run(rt, input, ""),
-        3 => write_case::run(rt, input, "tie "),
-        4 => read_case::run(rt, input, "wrap "),
-        5 => write_case::run(rt, input, "wrap "),
-        _ => Err(ErrorKind::InvalidData.into()),
+// A case, by the byte that says what it is; whether there was one.
+fn case<R: Read>(rt: &impl Print, input: &mut R) -> io::Result<bool> {
+    match input::kind(input)? {
+        1 => read_case::run(rt, input, "")?,
+        2 => write_case::run(rt, input, "")?,
+        3 => write_case::run(rt, input, "tie ")?,
+        4 => read_case::run(rt, input, "wrap ")?,
+        5 => write_case::run(rt, input, "wrap ")?,
+        _ => return Ok(false),
     }
+    Ok(true)
 }
 
 fn main(rt: HostRuntime) -> io::Result<()> {
     let mut input = rt.reader();
-    for _ in 0..u64::MAX {
-        match input::kind(&mut input)? {
-            0 => break,
-            kind => case(&rt, &mut input, kind)?,
+    for _ in 0..100000 {
+        if !case(&rt, &mut input)? {
+            break;
         }
     }
     Ok(())

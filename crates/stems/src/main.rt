@@ -20,7 +20,7 @@ use voice::parse_voice;
 
 fn main(rt: HostRuntime) -> io::Result<()> {
     let mut file = [0u8; 1024];
-    let n = io::copy(&mut rt.reader(), &mut file.as_mut_slice())?;
+    let n = io::copy(&mut rt.reader().take(1024), &mut file.as_mut_slice())?;
     play_file(&rt, first(&file, n as usize))
 }
 
