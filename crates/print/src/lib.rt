@@ -1,6 +1,8 @@
 // What the programs print.
 #![tactic(auto)]
 
+ghost use Rattle.std.specs.Prelude.{◌≡◌, take};
+
 use refusal::Refusal;
 use std::{fmt, io};
 
@@ -38,7 +40,9 @@ impl<T: fmt::Radix + Copy> fmt::Display for Packed<'_, T> {
 }
 
 // The first n of a buffer that was filled.
-pub fn first<T>(buffer: &[T], n: usize) -> &[T] {
+pub fn first<T>(buffer: &[T], n: usize) -> &[T]
+    ensures { result.now ≡ take n buffer.now }
+{
     &buffer[..n.min(buffer.len())]
 }
 
