@@ -47,13 +47,15 @@ fn search_before(samples: &[i8], start: usize, reach: usize, from: usize) -> Res
 
 // The search where only places after the start are left, from a distance on.
 fn search_after(samples: &[i8], start: usize, reach: usize, from: usize) -> Result<usize, Refusal>
-    requires { Searched samples.now start from × (min (reach + 1) start ≤ from) }
+    requires { Searched samples.now start from × (min (reach + 1) start ≤ from) × (start + from ≤ length samples.now) }
     ensures { result ≡ nearest_crossing samples.now start reach }
 {
     let below = is_below(samples, start);
-    for d in from..distances(reach, samples.len() - start) {
-        if turns(below, samples, start + d) {
-            return Ok(start + d);
+    let end = start + distances(reach, samples.len() - start);
+    // by places: with distances there are two numbers to count, and it takes half as long again
+    for i in start + from..end {
+        if turns(below, samples, i) {
+            return Ok(i);
         }
     }
     Err(Refusal::NoCrossing)
