@@ -8,7 +8,7 @@ fn read(rt: &impl Print, body: &[u8]) -> io::Result<()> {
     let mut out = [0i8; 8];
     match fibonacci_decode_channel(body, &mut out) {
         Ok(n) => println!(rt; "{}", Samples(first(&out, n))),
-        Err(refusal) => refused(rt, refusal),
+        Err(refusal) => refused(rt, refusal.number()),
     }
 }
 
@@ -17,7 +17,7 @@ fn write(rt: &impl Print, channel: &[i8]) -> io::Result<()> {
     let mut out = [0u8; 8];
     match fibonacci_encode_channel(channel, &mut out) {
         Ok(n) => println!(rt; "{}", Bytes(first(&out, n))),
-        Err(refusal) => refused(rt, refusal),
+        Err(refusal) => refused(rt, refusal.number()),
     }
 }
 
@@ -35,7 +35,7 @@ fn body(
     let mut out = [0u8; 8];
     match decode_body(all, compression, channels, frames, &mut out) {
         Ok(n) => println!(rt; "{}", Bytes(first(&out, n))),
-        Err(refusal) => refused(rt, refusal),
+        Err(refusal) => refused(rt, refusal.number()),
     }
 }
 

@@ -10,7 +10,7 @@ fn crossing(rt: &impl Print, octave: &[i8], place: usize, reach: usize) -> io::R
     )?;
     match nearest_crossing(octave, place, reach) {
         Ok(place) => println!(rt; " {place}"),
-        Err(refusal) => refused(rt, refusal),
+        Err(refusal) => refused(rt, refusal.number()),
     }
 }
 

@@ -19,7 +19,7 @@ fn total(rt: &impl Print, one_shot: u32, octaves: u8) -> io::Result<()> {
     print!(rt; "one-shot {one_shot}, octaves {octaves}: total")?;
     match header(one_shot, 0, octaves).total_samples_per_channel() {
         Ok(n) => println!(rt; " {n}"),
-        Err(refusal) => refused(rt, refusal),
+        Err(refusal) => refused(rt, refusal.number()),
     }
 }
 
@@ -36,7 +36,7 @@ fn channel(rt: &impl Print, v: u32) -> io::Result<()> {
     print!(rt; "CHAN {v}:")?;
     match ChannelAssignment::from_raw(v) {
         Ok(channel) => println!(rt; " channels {}", channel.channel_count()),
-        Err(refusal) => refused(rt, refusal),
+        Err(refusal) => refused(rt, refusal.number()),
     }
 }
 
@@ -45,7 +45,7 @@ fn segment(rt: &impl Print, start: u32, end: u32, hi: u64) -> io::Result<()> {
     let segment = SeqnSegment { start, end };
     match segment.validate(hi) {
         Ok(()) => println!(rt; " {}", segment.len()),
-        Err(refusal) => refused(rt, refusal),
+        Err(refusal) => refused(rt, refusal.number()),
     }
 }
 

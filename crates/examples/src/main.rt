@@ -8,13 +8,15 @@ mod sheets;
 mod texts;
 mod waves;
 
+use print::Passing;
 use std::io;
 
 fn main(rt: HostRuntime) -> io::Result<()> {
-    codec::run(&rt)?;
-    headers::run(&rt)?;
-    sheets::run(&rt)?;
-    texts::run(&rt)?;
-    waves::run(&rt)?;
-    crossings::run(&rt)
+    let out = Passing(&rt);
+    codec::run(&out)?;
+    headers::run(&out)?;
+    sheets::run(&out)?;
+    texts::run(&out)?;
+    waves::run(&out)?;
+    crossings::run(&out)
 }

@@ -6,7 +6,7 @@ use voice::{Record, judge_sheet, record_at};
 fn judge(rt: &impl Print, all: &[u8]) -> io::Result<()> {
     match judge_sheet(all) {
         Ok(()) => println!(rt; " sound"),
-        Err(refusal) => refused(rt, refusal),
+        Err(refusal) => refused(rt, refusal.number()),
     }
 }
 
@@ -36,7 +36,7 @@ fn at(rt: &impl Print, all: &[u8], place: usize) -> io::Result<()> {
             println!(rt; " kind {kind}, body from {start} to {next}")
         }
         Ok(None) => println!(rt; " end"),
-        Err(refusal) => refused(rt, refusal),
+        Err(refusal) => refused(rt, refusal.number()),
     }
 }
 

@@ -7,7 +7,7 @@ fn write(rt: &impl Print, sheet: &[u8], left: &[i8], right: &[i8], octave: u8) -
     let mut out = [0u8; 64];
     match octave_wave(sheet, left, right, octave, &mut out) {
         Ok(n) => println!(rt; "{}", Bytes(first(&out, n))),
-        Err(refusal) => refused(rt, refusal),
+        Err(refusal) => refused(rt, refusal.number()),
     }
 }
 

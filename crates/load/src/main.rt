@@ -8,7 +8,7 @@ mod sums;
 
 use crate::play::play_octaves;
 use crate::sums::Sums;
-use print::first;
+use print::{Passing, first};
 use std::io;
 use voice::{Lengths, drawn_voice, encode_voice, parse_voice};
 
@@ -74,10 +74,11 @@ fn comes_back(file: &[u8], voice: Voice) -> bool {
 }
 
 fn main(rt: HostRuntime) -> io::Result<()> {
+    let out = Passing(&rt);
     let sums = (1..=1000).fold(Sums::default(), draw);
-    println!(rt; "voices read as they were drawn: {}", sums.voices)?;
-    println!(rt; "files: {} bytes, sum {}", sums.bytes, sums.files)?;
-    println!(rt;
+    println!(out; "voices read as they were drawn: {}", sums.voices)?;
+    println!(out; "files: {} bytes, sum {}", sums.bytes, sums.files)?;
+    println!(out;
         "notes: {} of 4096 frames, {} not over, sum {}",
         sums.notes, sums.sounding, sums.frames
     )

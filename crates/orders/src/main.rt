@@ -1,7 +1,7 @@
 // Puts channels in difference order and restores them, and prints what comes out.
 #![tactic(auto)]
 
-use print::{Samples, first, refused};
+use print::{Passing, Samples, first, refused};
 use refusal::Refusal;
 use std::io;
 use voice::{VoiceHeader, difference_order, difference_restore};
@@ -22,7 +22,7 @@ fn header(hi: u32, octaves: u8) -> VoiceHeader {
 fn tell(rt: &impl Print, answer: Result<usize, Refusal>, out: &[i8]) -> io::Result<()> {
     match answer {
         Ok(n) => println!(rt; "{}", Samples(first(out, n))),
-        Err(refusal) => refused(rt, refusal),
+        Err(refusal) => refused(rt, refusal.number()),
     }
 }
 
@@ -47,15 +47,16 @@ fn restore(rt: &impl Print, hi: u32, octaves: u8, values: &[i8]) -> io::Result<(
 }
 
 fn main(rt: HostRuntime) -> io::Result<()> {
-    order(&rt, 0, 3, &[1, 4, 9, 16, 25])?;
-    restore(&rt, 0, 3, &[1, 5, 9, 3, 7])?;
-    order(&rt, 0, 255, &[127, -128, 127, 0])?;
-    restore(&rt, 0, 255, &[127, -1, 1, -127])?;
-    order(&rt, 1, 3, &[9, 10, 20, -100, 100, 0, 127])?;
-    restore(&rt, 1, 3, &[9, 10, 10, -100, -100, -56, 127])?;
-    order(&rt, 0, 0, &[])?;
-    restore(&rt, 0, 0, &[-128])?;
-    order(&rt, 1, 65, &[])?;
-    order(&rt, 1, 3, &[9, 10, 20])?;
-    order(&rt, 0, 1, &[1, 2, 3, 4, 5, 6, 7, 8])
+    let out = Passing(&rt);
+    order(&out, 0, 3, &[1, 4, 9, 16, 25])?;
+    restore(&out, 0, 3, &[1, 5, 9, 3, 7])?;
+    order(&out, 0, 255, &[127, -128, 127, 0])?;
+    restore(&out, 0, 255, &[127, -1, 1, -127])?;
+    order(&out, 1, 3, &[9, 10, 20, -100, 100, 0, 127])?;
+    restore(&out, 1, 3, &[9, 10, 10, -100, -100, -56, 127])?;
+    order(&out, 0, 0, &[])?;
+    restore(&out, 0, 0, &[-128])?;
+    order(&out, 1, 65, &[])?;
+    order(&out, 1, 3, &[9, 10, 20])?;
+    order(&out, 0, 1, &[1, 2, 3, 4, 5, 6, 7, 8])
 }

@@ -1,9 +1,11 @@
 // What the programs print.
 #![tactic(auto)]
 
-ghost use Rattle.std.specs.Prelude.{◌≡◌, take};
+mod passing;
 
-use refusal::Refusal;
+ghost use Rattle.std.specs.Prelude.{◌≡◌, take, IsOk};
+
+pub use passing::Passing;
 use std::{fmt, io};
 
 // Bytes, each after a space, in two hex digits.
@@ -47,6 +49,8 @@ pub fn first<T>(buffer: &[T], n: usize) -> &[T]
 }
 
 // The end of a line that says what a call gave: that it was refused, and by which number.
-pub fn refused(rt: &impl Print, refusal: Refusal) -> io::Result<()> {
-    println!(rt; " refused {}", refusal.number())
+pub fn refused(rt: &impl Print, number: u8) -> io::Result<()>
+    ensures { IsOk result }
+{
+    println!(Passing(rt); " refused {number}")
 }

@@ -8,26 +8,32 @@ mod input;
 mod read_case;
 mod write_case;
 
+use print::Passing;
 use std::io;
 use std::io::Read;
 
-// A case, by the byte that says what it is; whether there was one.
+// A case, by the byte that says what it is; whether there was one. Its line begins with a label where the answer isn't the original's, which
+// stands before the case is read.
 fn case<R: Read>(rt: &impl Print, input: &mut R) -> io::Result<bool> {
-    match input::kind(input)? {
-        1 => read_case::run(rt, input, "")?,
-        2 => write_case::run(rt, input, "")?,
-        3 => write_case::run(rt, input, "tie ")?,
-        4 => read_case::run(rt, input, "wrap ")?,
-        5 => write_case::run(rt, input, "wrap ")?,
+    let kind = input::kind(input);
+    match kind {
+        3 => print!(rt; "tie ")?,
+        4 | 5 => print!(rt; "wrap ")?,
+        _ => {}
+    }
+    match kind {
+        1 | 4 => read_case::run(rt, input)?,
+        2 | 3 | 5 => write_case::run(rt, input)?,
         _ => return Ok(false),
     }
     Ok(true)
 }
 
 fn main(rt: HostRuntime) -> io::Result<()> {
+    let out = Passing(&rt);
     let mut input = rt.reader();
     for _ in 0..100000 {
-        if !case(&rt, &mut input)? {
+        if !case(&out, &mut input)? {
             break;
         }
     }

@@ -1,6 +1,7 @@
 // Walks three sheets record by record and prints each record's kind and its body's length, then how the walk ends.
 #![tactic(auto)]
 
+use print::Passing;
 use std::io;
 use voice::{Record, read_step};
 
@@ -29,9 +30,10 @@ fn whole(rt: &impl Print) -> io::Result<()> {
 }
 
 fn main(rt: HostRuntime) -> io::Result<()> {
-    whole(&rt)?;
-    println!(rt; "an unknown kind after a channel")?;
-    kinds(&rt, b"\x02\x04\x0C\0")?;
-    println!(rt; "an attack, and a point cut off")?;
-    kinds(&rt, b"\x04\x06\0\x0A\0\x01")
+    let out = Passing(&rt);
+    whole(&out)?;
+    println!(out; "an unknown kind after a channel")?;
+    kinds(&out, b"\x02\x04\x0C\0")?;
+    println!(out; "an attack, and a point cut off")?;
+    kinds(&out, b"\x04\x06\0\x0A\0\x01")
 }

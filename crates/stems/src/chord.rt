@@ -1,6 +1,6 @@
 // A chord: four notes that start one after another, mixed in blocks of several lengths. It prints some mixed frames of the first pass, and for
 // each pass how many of its values differ from the first one's: none, since a mix is the same however it is cut into blocks.
-ghost use Rattle.std.specs.Prelude.{◌<◌, ◌≤◌};
+ghost use Rattle.std.specs.Prelude.{◌≡◌, ◌<◌, ◌≤◌, length};
 
 use crate::{Voice, report};
 use ensemble::{Entry, mix};
@@ -49,7 +49,7 @@ fn mix_all(voice: Voice, block: usize, out: &mut [i16]) -> Result<u32, Refusal>
 
 // One more pass, held against the first.
 fn mix_again(rt: &impl Print, voice: Voice, block: usize, first: &[i16]) -> io::Result<()>
-    requires { (0 < block) × (block ≤ 1000) }
+    requires { (0 < block) × (block ≤ 1000) × (length first.now ≡ 4000) }
 {
     let mut again = [0i16; 4000];
     match mix_all(voice, block, &mut again) {

@@ -11,17 +11,20 @@ mod chord;
 mod report;
 mod stem;
 
-ghost use Rattle.std.specs.Prelude.{◌<◌};
+ghost use Rattle.std.specs.Prelude.{◌≡◌, ◌<◌, length};
 
-use print::first;
+use print::{Passing, first};
 use std::io;
 use std::io::Read;
 use voice::parse_voice;
 
 fn main(rt: HostRuntime) -> io::Result<()> {
     let mut file = [0u8; 1024];
-    let n = io::copy(&mut rt.reader().take(1024), &mut file.as_mut_slice())?;
-    play_file(&rt, first(&file, n as usize))
+    let mut rest = file.as_mut_slice();
+    // where a read fails the file ends
+    let _ = io::copy(&mut rt.reader().take(1024), &mut rest);
+    let n = 1024usize.saturating_sub(rest.len());
+    play_file(&Passing(&rt), first(&file, n))
 }
 
 // A voice that was read: its sheet, and the samples of both sides.
@@ -71,7 +74,7 @@ fn play_note(rt: &impl Print, voice: Voice) -> io::Result<()> {
 
 // One more stem, held against the first.
 fn play_again(rt: &impl Print, voice: Voice, block: usize, first: &[i16]) -> io::Result<()>
-    requires { 0 < block }
+    requires { (0 < block) × (length first.now ≡ 4000) }
 {
     let mut again = [0i16; 4000];
     match stem::play(voice, block, &mut again) {

@@ -1,5 +1,5 @@
 // A stem or a mix in print.
-ghost use Rattle.std.specs.Prelude.{◌+◌, ◌*◌, ◌≤◌, length};
+ghost use Rattle.std.specs.Prelude.{◌≡◌, ◌+◌, ◌*◌, ◌≤◌, length};
 
 use std::{fmt, io};
 
@@ -40,7 +40,9 @@ pub fn mixed(rt: &impl Print, block: usize, place: u32) -> io::Result<()> {
 }
 
 // How many values of a later stem, or of a later mix, differ from the first one's.
-pub fn difference(rt: &impl Print, first: &[i16], again: &[i16]) -> io::Result<()> {
+pub fn difference(rt: &impl Print, first: &[i16], again: &[i16]) -> io::Result<()>
+    requires { length first.now ≡ length again.now }
+{
     let n = first.iter().zip(again).filter(|(a, b)| a != b).count();
     println!(rt; ", {n} values differ from the first stem")
 }
