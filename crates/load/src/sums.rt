@@ -17,6 +17,21 @@ fn next(sum: u64, element: u64) -> u64 {
     sum.wrapping_mul(31).wrapping_add(element)
 }
 
+// The element of a value: its 16 bits.
+fn bits(value: i16) -> u64 {
+    u64::from(value.cast_unsigned())
+}
+
+// `next` for values in a row. Four at once wait for the sum before them once and not four times: it times 31^4, and theirs beside it.
+fn next_values(sum: u64, values: &[i16]) -> u64 {
+    match *values {
+        [a, b, c, d] => sum
+            .wrapping_mul(31 * 31 * 31 * 31)
+            .wrapping_add(next(next(next(bits(a), bits(b)), bits(c)), bits(d))),
+        _ => values.iter().fold(sum, |sum, v| next(sum, bits(*v))),
+    }
+}
+
 impl Sums {
     // With a file.
     pub fn with_file(self, file: &[u8]) -> Sums {
@@ -42,10 +57,7 @@ impl Sums {
         Sums {
             notes: self.notes.wrapping_add(1),
             sounding: self.sounding.wrapping_add(sounding as u64),
-            frames: values.iter().fold(
-                self.frames,
-                |sum, v| next(sum, u64::from(v.cast_unsigned())),
-            ),
+            frames: values.chunks(4).fold(self.frames, next_values),
             ..self
         }
     }

@@ -8,7 +8,7 @@ use lib.ListN.{length, take, drop, length-append, length-drop}
 use lib.Seq.{take-append_seam}
 use mathlib.Core.Bool.{Bool, true, false, cond, ◌&&◌}
 use mathlib.Core.List.{List, [], ◌∷◌}
-use mathlib.Core.Path.{◌≡◌, refl, sym, ap, ◌∙◌}
+use mathlib.Core.Path.{◌≡◌, refl, sym, ap, ◌∙◌, subst}
 use native.Mathlib.Nat.{add-zero, add-sub_cancel_left}
 use native.Mathlib.Omega.{arith}
 use Rattle.laws.specs.Walk.{each}
@@ -21,7 +21,7 @@ use Rattle.text.specs.Place.{start_white, text_end}
 use Rattle.text.specs.Text.{before_zero, is_white, trim_start, is_empty, trim_end, trim}
 use Rattle.text_utf8.proofs.SpanLaws.{Spans, span_length}
 use Rattle.text_utf8.proofs.SubsequenceLaws.{subsequences_bytes}
-use Rattle.text_utf8.specs.Step.{subsequences_from}
+use Rattle.text_utf8.specs.Step.{subsequence, subsequences_from}
 use Rattle.text_utf8.specs.Utf8.{Subsequence, subsequences, bytes}
 
 -- ---- the first zero byte
@@ -61,6 +61,9 @@ first_zero_or_end s = rw (← first_zero_is) (go (ltb (length (before_zero s)) (
     go false e = omega (arith, before_zero_le s, ltb-false _ _ e)
 
 -- ---- one subsequence, at the start and at the end
+
+pub ill_formed_not_white : {w : Bool} (l : List ℕ) → w ≡ false → is_white (subsequence w l) ≡ false
+ill_formed_not_white l e = subst (λ (w : Bool). is_white (subsequence w l) ≡ false) (sym e) refl
 
 module _ {s : List ℕ} {at next : ℕ} {p : Subsequence} (w : Spans s at next p) where
   pub start_here : is_white p ≡ false → trim_start (subsequences_from s at) ≡ subsequences_from s at

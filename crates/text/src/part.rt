@@ -48,7 +48,8 @@ fn text_end(s: &[u8], from: usize) -> usize
     let mut at = from;
     let mut end = from;
     while let Some(part) = step_at(s, at) {
-        if !is_white_part(&s[at..part.next], part.well_formed) {
+        // an ill-formed part is not white: asked here too, its bytes are not looked at
+        if !part.well_formed || !is_white_part(&s[at..part.next], part.well_formed) {
             end = part.next;
         }
         at = part.next;

@@ -1,8 +1,9 @@
 -- `body_decode::one_raw` meets its contract: a raw channel gives its own bytes, as many as the limit allows.
 use mathlib.Core.Path.{◌≡◌, sym, ap, ◌∙◌}
-use mathlib.Core.List.{List, ◌++◌}
+use mathlib.Core.List.{List}
 use Prim.Native.Nat.{ℕ, min}
-use lib.ListN.{length, take, drop, length-take}
+use lib.ListN.{length, take, length-take}
+use Rattle.laws.specs.Buffer.{written}
 use Rattle.refusal.proofs.OutcomeLaws.{outcome_fits, outcome_short}
 use Rattle.body_decode.proofs.BodyLaws.{take_least, one_raw_is}
 use Rattle.body_decode.proofs.one_raw.Goals as goal
@@ -27,7 +28,6 @@ returns c =
     let a = c.args in
     let whole = one_raw_is a.frames a.body.now (λ i. (c.type_inv.body i).fits) in
     let long = count _ _ _ c.min-n.ensures in
-    let stored = c.copy_from_slice.ensures.after ∙ all _ _ _ c.min-n.ensures in
-    let rest = drop (length (take a.frames a.body.now)) a.out.now in
-    let fits = outcome_fits _ a.out.now _ whole _ long (c.copy_from_slice.new.self ++ drop c.min-n.result a.out.now) c.if-out-n.false (rw long (ap (λ (l : List ℕ). l ++ rest) stored)) in
+    let copied = c.copy_bytes.ensures ∙ ap (λ (l : List ℕ). written l a.out.now) (all _ _ _ c.min-n.ensures) in
+    let fits = outcome_fits _ a.out.now _ whole _ long _ c.if-out-n.false copied in
     record { result = fits.0; buffer = fits.1 }
