@@ -13,6 +13,6 @@ mod wrap;
 
 pub use little::{put16_le, put32_le};
 pub use number::{bytes32, put16, put32, read_i32, read16, read32};
-pub use signed::{bits_of_i32, byte_of_sample, sample_of_byte};
+pub use signed::{bits_of_i32, byte_of_sample, i32_of_bits, sample_of_byte};
 pub use store::{put_all, put_byte, put_record, put_tagged};
 pub use wrap::{sample_difference, sample_sum};

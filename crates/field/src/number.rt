@@ -4,6 +4,7 @@ ghost use Rattle.laws.specs.Put.{Put};
 ghost use Rattle.field.specs.BigEndian.{big_endian, big_endian_bytes};
 ghost use Rattle.field.specs.Signed.{signed32};
 
+use crate::signed::i32_of_bits;
 use crate::store::put_all;
 
 // The two bytes from `at` on.
@@ -27,7 +28,7 @@ pub fn read_i32(s: &[u8], at: usize) -> i32
     requires { at + 4 ≤ length s.now }
     ensures { result ≡ signed32 (big_endian 4 (drop at s.now)) }
 {
-    read32(s, at).cast_signed()
+    i32_of_bits(read32(s, at))
 }
 
 // The two bytes of v, stored from `at` on; the place past them.

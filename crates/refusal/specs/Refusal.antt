@@ -6,7 +6,7 @@ use Rattle.refusal.specs.declared.Refusal.TheVariants.{FileShort, NotForm, Not8s
 
 -- } refusals.txt
 
--- the number by which 01 and 02 know a refusal
+-- the number by which C hosts and programs know a refusal
 abbrev pub number_of : Refusal → ℕ
 -- refusals.txt { written by tools/refusals.sh
 -- the file is shorter than 12 bytes

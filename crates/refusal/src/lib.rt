@@ -1,7 +1,7 @@
 // Refusals: why an entry turns a call back.
 #![tactic(auto)]
 
-ghost use Rattle.std.specs.Prelude.{◌≡◌};
+ghost use Rattle.std.specs.Prelude.{◌≡◌, ◌<◌};
 ghost use Rattle.refusal.specs.Refusal.{number_of};
 
 use std::error::Error;
@@ -87,15 +87,16 @@ pub enum Refusal {
 }
 
 impl Refusal {
-    // Its number, by which C hosts and programs know it.
+    // Its number, by which C hosts and programs know it. None is 0, which stands for an accepted call.
     pub fn number(self) -> u8
-        ensures { result ≡ number_of self }
+        ensures number { result ≡ number_of self }
+        ensures refused { 0 < result }
     {
         self as u8
     }
 }
 
-// In a few words, as `svx_refusal_words` has them.
+// In a few words, as `svx_refusal_text` has them.
 impl fmt::Display for Refusal {
     fn fmt<W: fmt::Write>(&self, f: &mut fmt::Formatter<W>) -> fmt::Result {
         f.write_str(match self {
