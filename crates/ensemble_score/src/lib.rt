@@ -1,4 +1,4 @@
-// A score: timed notes, lent as a slice of entries. What takes the slice is few and thin; all else has the entries as numbers.
+// A score: timed notes, lent as a slice of entries; and a score by value, which has them as numbers, for callers that have no slice to lend.
 #![tactic(auto)]
 
 ghost use Rattle.std.specs.Prelude.{◌≡◌, List, ◌+◌, ◌≤◌, ◌<◌, length, get_or};
@@ -27,7 +27,7 @@ struct Four {
 }
 
 // A score taken over from a slice: its length, and five numbers for each of its first sixteen entries (start, key-up, step, octave, velocity).
-// What stands past its end doesn't matter. Numbers can be lent to covered code; an array of structs would be copied for each look at it.
+// What stands past its end doesn't matter.
 #[derive(Clone, Copy)]
 pub struct Score {
     pub count: usize,
