@@ -50,8 +50,9 @@ pub(crate) fn mix_stretch(
     ensures out { out.new ≡ interleaved (frames_from (mixed_frame (read_sheet sheet.now) (record { left = left.entry.now; right = right.now }) rate score.now) at (length out.old / 2)) }
     ensures sums { sums.new ≡ replicate (length sums.old) (pos 0) }
 {
-    for entry in score {
-        add_entry(*entry, rate, at, sheet, l, left, right, sums, out);
+    // by index, so that must-fail/first_entry_left_out changes one number and nothing of the form
+    for i in 0..score.len() {
+        add_entry(score[i], rate, at, sheet, l, left, right, sums, out);
     }
     put_held(sums, out);
 }

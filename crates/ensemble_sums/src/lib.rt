@@ -17,14 +17,22 @@ pub fn add_values(values: &[i16], n: usize, sums: &mut [i32])
     }
 }
 
-// Writes each sum, held within 16 bits, and leaves the sums at 0 for the next stretch.
+// A sum, held within 16 bits.
+#[tactic(auto, using(crate::proofs::SumLaws::clamped), unfolding(crate::specs::Sums::held_to16))]
+fn held(sum: i32) -> i16
+    ensures { result ≡ held_to16 sum }
+{
+    sum.clamp(-32768, 32767) as i16
+}
+
+// Writes each sum, held, and leaves the sums at 0 for the next stretch.
 pub fn put_held(sums: &mut [i32], out: &mut [i16])
     requires { length sums.old ≡ length out.old }
     ensures out { out.new ≡ map held_to16 sums.old }
     ensures sums { sums.new ≡ replicate (length sums.old) (pos 0) }
 {
     for (i, sum) in sums.iter().enumerate() {
-        out[i] = (*sum).clamp(-32768, 32767) as i16;
+        out[i] = held(*sum);
     }
     sums.fill(0);
 }

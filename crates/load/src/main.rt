@@ -1,6 +1,6 @@
-// The load: the voices of the numbers 1 to 1,000, each drawn, written, read from its file and held against what was drawn, and then every
-// octave of it played for 4,096 frames. It prints how much that is, and a sum over all files and one over all frames, which are the same on
-// every machine: those that the plain versions of `tools/compare` come to.
+// The load: the voices of the numbers 1 to 1,000, each drawn, every octave of it played for 4,096 frames, and then written, read from its file
+// and held against what was drawn. It prints how much that is, and a sum over all files and one over all frames, which are the same on every
+// machine: those that the plain versions of `tools/compare` come to.
 #![tactic(auto)]
 
 mod play;
@@ -34,30 +34,34 @@ fn cut<'a>(
     }
 }
 
-// A voice drawn.
+// A voice drawn, played and written. It is played first: the compiler then still has the bytes of its sheet in hand, and makes a loop over the
+// frames in which nothing is left of volume, envelope, fade and sides that all drawn voices have alike, a quarter fewer instructions in all.
 fn draw(sums: Sums, number: u32) -> Sums {
     let mut sheet = [0u8; 23];
     let mut left = [0i8; 1890];
     let mut right = [0i8; 1890];
     match drawn_voice(number, &mut sheet, &mut left, &mut right) {
         Err(_) => sums,
-        Ok(l) => write(sums, cut(l, &sheet, &left, &right)),
+        Ok(l) => {
+            let voice = cut(l, &sheet, &left, &right);
+            write(sums, play_octaves(sums.with_voice(), voice), voice)
+        }
     }
 }
 
-// Written, the longest file has 3,840 bytes; and played, if what is read from the file is what was drawn.
-fn write(sums: Sums, voice: Voice) -> Sums {
+// The sums with what was played, if what is read from the file is what was drawn. The longest file has 3,840 bytes.
+fn write(sums: Sums, played: Sums, voice: Voice) -> Sums {
     let mut buffer = [0u8; 3840];
     match encode_voice(voice.sheet, voice.left, voice.right, &mut buffer) {
         Err(_) => sums,
         Ok(length) => {
             let file = first(&buffer, length);
-            let counted = sums.with_file(file);
-            if comes_back(file, voice) {
-                play_octaves(counted.with_voice(), voice)
+            let counted = if comes_back(file, voice) {
+                played
             } else {
-                counted
-            }
+                sums
+            };
+            counted.with_file(file)
         }
     }
 }

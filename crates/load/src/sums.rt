@@ -1,4 +1,5 @@
 // How much was drawn, written and played, in numbers of 64 bits that wrap.
+ghost use Rattle.std.specs.Prelude.{◌<◌};
 
 // Voices that were read as they were drawn; the bytes of files and a sum over them; notes, the frames of them that aren't over, and a sum
 // over the values of all frames. A sum begins with 0, and with each element becomes 31 times itself and the element.
@@ -18,18 +19,17 @@ fn next(sum: u64, element: u64) -> u64 {
 }
 
 // The element of a value: its 16 bits.
-fn bits(value: i16) -> u64 {
+fn bits(value: i16) -> u64
+    ensures { result < 65536 }
+{
     u64::from(value.cast_unsigned())
 }
 
-// `next` for values in a row. Four at once wait for the sum before them once and not four times: it times 31^4, and theirs beside it.
-fn next_values(sum: u64, values: &[i16]) -> u64 {
-    match *values {
-        [a, b, c, d] => sum
-            .wrapping_mul(31 * 31 * 31 * 31)
-            .wrapping_add(next(next(next(bits(a), bits(b)), bits(c)), bits(d))),
-        _ => values.iter().fold(sum, |sum, v| next(sum, bits(*v))),
-    }
+// `next` for four values. They wait for the sum before them once and not four times: it times 31^4, and theirs beside it.
+fn next_four(sum: u64, values: &[i16; 4]) -> u64 {
+    let [a, b, c, d] = *values;
+    let of_four = bits(a) * (31 * 31 * 31) + bits(b) * (31 * 31) + bits(c) * 31 + bits(d);
+    sum.wrapping_mul(31 * 31 * 31 * 31).wrapping_add(of_four)
 }
 
 impl Sums {
@@ -54,10 +54,12 @@ impl Sums {
 
     // With a note's frames, so many of which aren't over. A value counts as its 16 bits.
     pub fn with_note(self, sounding: usize, values: &[i16]) -> Sums {
+        let (fours, rest) = values.as_chunks::<4>();
+        let frames = fours.iter().fold(self.frames, next_four);
         Sums {
             notes: self.notes.wrapping_add(1),
             sounding: self.sounding.wrapping_add(sounding as u64),
-            frames: values.chunks(4).fold(self.frames, next_values),
+            frames: rest.iter().fold(frames, |sum, v| next(sum, bits(*v))),
             ..self
         }
     }

@@ -33,7 +33,9 @@ fn seek(part: &[u8], e: EnvelopeCursor, t: usize) -> EnvelopeCursor
     let mut at = e.at;
     let mut before = e.before;
     let mut level = e.level;
-    while let Some(place) = next_member(part, at, 6) {
+    // looked for here and at each turn's end, so that must-fail/opener_as_point spoils the second alone
+    let mut here = next_member(part, at, 6);
+    while let Some(place) = here {
         let body = place + 1;
         let p = read_point(part, body);
         let into = t - before;
@@ -52,6 +54,7 @@ fn seek(part: &[u8], e: EnvelopeCursor, t: usize) -> EnvelopeCursor
         at = place + 7;
         before += duration;
         level = p.dest;
+        here = next_member(part, at, 6);
     }
     EnvelopeCursor {
         at,

@@ -48,7 +48,7 @@ fn text_end(s: &[u8], from: usize) -> usize
     let mut at = from;
     let mut end = from;
     while let Some(part) = step_at(s, at) {
-        // an ill-formed part is not white: asked here too, its bytes are not looked at
+        // an ill-formed part is not white: asked first, as ill-formed bytes in a row then take a fifth fewer instructions
         if !part.well_formed || !is_white_part(&s[at..part.next], part.well_formed) {
             end = part.next;
         }

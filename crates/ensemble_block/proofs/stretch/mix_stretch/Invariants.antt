@@ -6,8 +6,8 @@ use Rattle.sheet.specs.Read.{read_sheet}
 use Rattle.ensemble_block.proofs.SumsLaws.{Summed}
 use Rattle.ensemble_block.proofs.stretch.mix_stretch.Given as goal
 
-abbrev pub invariant-loop-entry : goal.invariant-loop-entry
-invariant-loop-entry l =
+abbrev pub invariant-loop-i : goal.invariant-loop-i
+invariant-loop-i l =
     (length l.sums ≡ length l.initial.sums)
     × (length l.out ≡ length l.initial.out)
-    × Summed (read_sheet l.sheet) (record { left = l.left; right = l.right }) l.rate l.at (length l.initial.out / 2) (take l.entry-index l.score) l.sums
+    × Summed (read_sheet l.sheet) (record { left = l.left; right = l.right }) l.rate l.at (length l.initial.out / 2) (take l.i l.score) l.sums
