@@ -49,7 +49,7 @@ fn draw(sums: Sums, number: u32) -> Sums {
     }
 }
 
-// The sums with what was played, if what is read from the file is what was drawn. The longest file has 3,840 bytes.
+// The sums with the voice's file, and with what was played if what is read from that file is what was drawn. The longest has 3,840 bytes.
 fn write(sums: Sums, played: Sums, voice: Voice) -> Sums {
     let mut buffer = [0u8; 3840];
     match encode_voice(voice.sheet, voice.left, voice.right, &mut buffer) {
